@@ -1,0 +1,47 @@
+// What is read of a network.
+ghost use mathlib.Core.Path.{_≡_};
+ghost use Rattle.network.specs.Laid.{plan};
+ghost use Rattle.network.specs.Plan.{Laid, laid, link, last-start, has-entry};
+use crate::link::Link;
+use crate::network::Network;
+
+impl Network {
+    // Whether a link has the number.
+    pub(crate) fn is_laid(&self, number: u32) -> bool
+        ensures { λ r. ⌜ r ≡ laid (plan (now (self .entry)) .links) number ⌝ }
+    {
+        number >= 1 && number as usize <= self.links.len()
+    }
+
+    // The link of a number.
+    pub(crate) fn link(&self, number: u32) -> Link
+        requires { ⌜ Laid (plan (now self) .links) number ⌝ }
+        ensures { λ r. ⌜ r ≡ link (plan (now (self .entry)) .links) number ⌝ }
+    {
+        self.links.get(number as usize - 1)
+    }
+
+    // The start of the link that was laid last, or 0 before the first.
+    pub(crate) fn last_start(&self) -> u16
+        ensures { λ r. ⌜ r ≡ last-start (plan (now (self .entry)) .links) ⌝ }
+    {
+        let count = self.links.len();
+        if count == 0 {
+            return 0;
+        }
+        self.links.get(count - 1).start
+    }
+
+    // Whether the pair has an entry.
+    pub(crate) fn has_entry(&self, into: u32, out: u32) -> bool
+        ensures { λ r. ⌜ r ≡ has-entry (plan (now (self .entry)) .turns) into out ⌝ }
+    {
+        let turns = self.turns.as_slice();
+        for turn in turns {
+            if u32::from(turn.into) == into && u32::from(turn.out) == out {
+                return true;
+            }
+        }
+        false
+    }
+}
