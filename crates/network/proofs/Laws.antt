@@ -19,7 +19,7 @@ use Rattle.network.specs.Plan.{Plan, Lawful, no-link, no-turn, link, laid, Lai
 use Rattle.network.specs.Letters.{class-of}
 use Rattle.network.specs.Refusals.{Row, row, first-refusal}
 use Rattle.network.specs.Laying.{outside, pair-rows, letter-rows, turn-refusal}
-use Rattle.network.proofs.Rows.{passed-row, passed-before, refused-before}
+use Rattle.network.proofs.Rows.{passed-row, passed-both, passed-before, refused-before}
 use Rattle.network.proofs.Entries.{no-place-has}
 
 -- what holds at each place, and of one more
@@ -176,3 +176,19 @@ module _ (p : Plan) (into out letter extra n : ℕ) where
       passed-before (pair-rows p into out) (row 8 (has-entry (p .turns) into out) ∷ letter-rows letter extra ++ rest) pair
       ∙ ap (λ (b : Bool). cond b (Some 8) (first-refusal (letter-rows letter extra ++ rest))) free
       ∙ refused-before (letter-rows letter extra) rest n e
+
+-- what an entry has passed that is laid
+pub turn-passed : (p : Plan) (into out letter extra : ℕ) → turn-refusal p into out letter extra ≡ None
+    → (first-refusal (pair-rows p into out) ≡ None) × (has-entry (p .turns) into out ≡ false)
+    × (first-refusal (letter-rows letter extra) ≡ None) × (eqb (length (p .turns)) 2048 ≡ false)
+turn-passed p into out letter extra e =
+    let full = row 5 (eqb (length (p .turns)) 2048) in
+    let taken = row 8 (has-entry (p .turns) into out) in
+    let a = passed-both (pair-rows p into out) (taken ∷ letter-rows letter extra ++ (full ∷ [])) e in
+    let b = passed-row taken (letter-rows letter extra ++ (full ∷ [])) (a .1) in
+    let d = passed-both (letter-rows letter extra) (full ∷ []) (b .1) in
+    (a .0, b .0, d .0, passed-row full [] (d .1) .0)
+
+pub letter-known : (letter extra : ℕ) → first-refusal (letter-rows letter extra) ≡ None → isSome (class-of letter) ≡ true
+letter-known letter extra e =
+    not-false (isSome (class-of letter)) (passed-row (row 9 (not (isSome (class-of letter)))) (row 10 (ltb 1000000 extra) ∷ []) e .0)

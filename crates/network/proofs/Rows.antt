@@ -47,3 +47,11 @@ handed-on answer x y o a e told = ap refusal-in a ∙ ap (λ (z : Refusal). Some
 
 pub stays : {S : Type 0} (o : Option ℕ) (n : ℕ) (before after : S) → o ≡ Some n → before ≡ unless o before after
 stays o n before after e = sym (ap (λ (x : Option ℕ). unless x before after) e)
+
+-- no row refuses: none of either list does
+pub passed-both : (rows more : List Row) → first-refusal (rows ++ more) ≡ None → (first-refusal rows ≡ None) × (first-refusal more ≡ None)
+passed-both [] more e = (refl, e)
+passed-both (r ∷ rows) more e =
+    let p = passed-row r (rows ++ more) e in
+    let q = passed-both rows more (p .1) in
+    (ap (λ (b : Bool). cond b (Some (r .told)) (first-refusal rows)) (p .0) ∙ q .0, q .1)

@@ -3,6 +3,7 @@
 --     with-link plan start end length tightness   the plan after the link was laid or refused
 --     turn-refusal plan into out letter extra   the refusal of a turn entry
 --     with-turn plan into out letter extra      the plan after the entry was laid or refused
+--     record-refusal, with-record               the same of the link or entry that a record holds
 use Prim.Native.Nat.{ℕ}
 use mathlib.Core.Bool.{Bool, not, _||_}
 use mathlib.Core.List.{List, [], _∷_, _++_}
@@ -13,6 +14,8 @@ use Rattle.std.specs.declared.option.Option.the-variants.{Some, None}
 use Rattle.std.specs.Options.{isSome, valueOr}
 use Rattle.network.specs.declared.link.Link.{Link}
 use Rattle.network.specs.declared.turn.Turn.{Turn}
+use Rattle.network.specs.declared.record.Record.{Record}
+use Rattle.network.specs.declared.record.Record.the-variants as records
 use Rattle.network.specs.Plan.{Plan, link, laid, last-start, has-entry}
 use Rattle.network.specs.Letters.{class-of}
 use Rattle.network.specs.Refusals.{Row, row, first-refusal}
@@ -72,3 +75,11 @@ abbrev pub with-turn : Plan → (into out letter extra : ℕ) → Plan
 with-turn plan into out letter extra =
     unless (turn-refusal plan into out letter extra) plan
     (add-turn plan (record { into = into; out = out; class = valueOr (class-of letter) 0; extra = extra }))
+
+abbrev pub record-refusal : Plan → Record → Option ℕ
+record-refusal plan (records.Link start end metres tightness) = link-refusal plan start end metres
+record-refusal plan (records.Turn into out letter extra) = turn-refusal plan into out letter extra
+
+abbrev pub with-record : Plan → Record → Plan
+with-record plan (records.Link start end metres tightness) = with-link plan start end metres tightness
+with-record plan (records.Turn into out letter extra) = with-turn plan into out letter extra

@@ -4,3 +4,5 @@ pub mod Plan
 pub mod Refusals
 pub mod Laying
 pub mod Laid
+pub mod Image
+pub mod Reads

@@ -6,10 +6,11 @@ ghost use Rattle.network.specs.Refusals.{refusal-in, first-refusal};
 ghost use Rattle.network.specs.Laid.{plan, drafted};
 ghost use Rattle.network.specs.Letters.{class-of};
 ghost use Rattle.network.specs.Plan.{empty};
-ghost use Rattle.network.specs.Laying.{outside, link-refusal, with-link, pair-rows, letter-rows, turn-refusal, with-turn};
+ghost use Rattle.network.specs.Laying.{outside, link-refusal, with-link, pair-rows, letter-rows, turn-refusal, with-turn, record-refusal, with-record};
 use crate::draft::Draft;
 use crate::link::Link;
 use crate::network::Network;
+use crate::record::Record;
 use crate::refusal::Refusal;
 use crate::table::Table;
 use crate::turn::Turn;
@@ -115,5 +116,26 @@ impl Draft {
             extra,
         });
         Ok(())
+    }
+
+    // Lays what a record holds.
+    pub fn lay(&mut self, record: Record) -> Result<(), Refusal>
+        ensures answer { λ r. ⌜ refusal-in r ≡ record-refusal (drafted (now (self .entry))) «record» ⌝ }
+        ensures after { λ _. ⌜ drafted (now (self .exit)) ≡ with-record (drafted (now (self .entry))) «record» ⌝ }
+    {
+        match record {
+            Record::Link {
+                start,
+                end,
+                length,
+                tightness,
+            } => self.lay_link(start, end, length, tightness),
+            Record::Turn {
+                into,
+                out,
+                letter,
+                extra,
+            } => self.lay_turn(into, out, letter, extra),
+        }
     }
 }

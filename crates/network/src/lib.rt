@@ -1,7 +1,11 @@
 mod draft;
+mod entry;
+mod fault;
 mod laying;
 mod link;
 mod network;
+mod reading;
+mod record;
 mod refusal;
 mod streets;
 mod table;
@@ -9,8 +13,11 @@ mod tables;
 mod turn;
 
 pub use draft::Draft;
+pub use fault::ReadFault;
 pub use link::Link;
 pub use network::Network;
+pub use reading::read_image;
+pub use record::Record;
 pub use refusal::Refusal;
 pub use table::Table;
 pub use turn::Turn;
