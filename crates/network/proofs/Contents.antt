@@ -29,7 +29,7 @@ contents-short bs h =
 pub contents-are : (bs rest bodies : List ℕ) (first second : ContentsEntry) → Entry-in bs first rest → Entry-in rest second bodies
     → (links-told bs ≡ first .count) × (turns-told bs ≡ second .count) × (bodies ≡ drop 16 bs)
     × (contents-right bs ≡ (eqb (length bodies) (9 * (first .count + second .count))
-      && (entry-is first 0x4C 16 && entry-is second 0x54 (16 + 9 * first .count))))
+    && (entry-is first 0x4C 16 && entry-is second 0x54 (16 + 9 * first .count))))
 contents-are bs rest bodies first second a b =
     let links : links-told bs ≡ first .count = sym (a .3) in
     let turns : turns-told bs ≡ second .count = ap (λ (x : List ℕ). two-at x 2) (sym (a .5)) ∙ sym (b .3) in
@@ -38,11 +38,11 @@ contents-are bs rest bodies first second a b =
     let short : length bodies ≡ length rest - 8 = ap length (b .5) ∙ length-drop 8 rest in
     let size : length bs ≡ 16 + length bodies = omega (arith, a .0, b .0) in
     let fits : eqb (length bs) (16 + 9 * (links-told bs + turns-told bs)) ≡ eqb (length bodies) (9 * (first .count + second .count)) =
-        ap₂ eqb size (ap₂ (λ (x y : ℕ). 16 + 9 * (x + y)) links turns) ∙ eqb-shift 16 (length bodies) (9 * (first .count + second .count)) in
+    ap₂ eqb size (ap₂ (λ (x y : ℕ). 16 + 9 * (x + y)) links turns) ∙ eqb-shift 16 (length bodies) (9 * (first .count + second .count)) in
     let one : entry-right 0x4C 16 bs ≡ entry-is first 0x4C 16 =
-        rw (a .1, a .2, a .4) refl in
+    rw (a .1, a .2, a .4) refl in
     let two′ : entry-right 0x54 (16 + 9 * links-told bs) (drop 8 bs) ≡ entry-is second 0x54 (16 + 9 * first .count) =
-        ap₂ (λ (x : ℕ) (y : List ℕ). entry-right 0x54 (16 + 9 * x) y) links (sym (a .5)) ∙ rw (b .1, b .2, b .4) refl in
+    ap₂ (λ (x : ℕ) (y : List ℕ). entry-right 0x54 (16 + 9 * x) y) links (sym (a .5)) ∙ rw (b .1, b .2, b .4) refl in
     (links, turns, behind, ap₂ _&&_ fits (ap₂ _&&_ one two′))
 
 module _ (bs rest bodies : List ℕ) (first second : ContentsEntry) (place : ℕ) (a : Entry-in bs first rest) (b : Entry-in rest second bodies)
@@ -55,8 +55,8 @@ module _ (bs rest bodies : List ℕ) (first second : ContentsEntry) (place : ℕ
   contents-pass long one two′ =
       contents-are bs rest bodies first second a b .3
       ∙ and-from fits (entry-is first 0x4C 16 && entry-is second 0x54 (16 + 9 * first .count)) (eq-eqb _ _ long)
-        (and-from (entry-is first 0x4C 16) (entry-is second 0x54 (16 + 9 * first .count)) one
-        (ap (λ (x : ℕ). entry-is second 0x54 x) (sym placed) ∙ two′))
+      (and-from (entry-is first 0x4C 16) (entry-is second 0x54 (16 + 9 * first .count)) one
+      (ap (λ (x : ℕ). entry-is second 0x54 x) (sym placed) ∙ two′))
 
   pub length-wrong : (length bodies ≡ 9 * (first .count + second .count) → ⊥) → contents-right bs ≡ false
   length-wrong long =
@@ -67,11 +67,11 @@ module _ (bs rest bodies : List ℕ) (first second : ContentsEntry) (place : ℕ
   first-wrong one =
       contents-are bs rest bodies first second a b .3
       ∙ and-right fits (entry-is first 0x4C 16 && entry-is second 0x54 (16 + 9 * first .count))
-        (and-left (entry-is first 0x4C 16) (entry-is second 0x54 (16 + 9 * first .count)) one)
+      (and-left (entry-is first 0x4C 16) (entry-is second 0x54 (16 + 9 * first .count)) one)
 
   pub second-wrong : entry-is second 0x54 place ≡ false → contents-right bs ≡ false
   second-wrong two′ =
       contents-are bs rest bodies first second a b .3
       ∙ and-right fits (entry-is first 0x4C 16 && entry-is second 0x54 (16 + 9 * first .count))
-        (and-right (entry-is first 0x4C 16) (entry-is second 0x54 (16 + 9 * first .count))
-        (ap (λ (x : ℕ). entry-is second 0x54 x) (sym placed) ∙ two′))
+      (and-right (entry-is first 0x4C 16) (entry-is second 0x54 (16 + 9 * first .count))
+      (ap (λ (x : ℕ). entry-is second 0x54 x) (sym placed) ∙ two′))

@@ -6,3 +6,6 @@ pub mod Readings
 pub mod Octets
 pub mod ReadBack
 pub mod Answering
+pub mod Written
+pub mod WriteBack
+pub mod Writings

@@ -92,7 +92,7 @@ link-added i links s e m t p h none passed =
     record {
       recorded = ap records is ∙ records-add-link p l none;
       one-link = λ _. (ap (λ (q : Plan). q .turns) is, ap (λ (q : Plan). length (q .links)) is ∙ length-push (p .links) l);
-      one-turn = λ past. absurd (omega arith)
+      one-turn = λ past. absurd (omega arith);
     }
 
 turn-added : (i links a b c x : ℕ) (p : Plan) → links ≤ i → record-refusal p (records-of.Turn a b c x) ≡ None
@@ -103,9 +103,9 @@ turn-added i links a b c x p h passed =
     let known = letter-known c x (turn-passed p a b c x passed .2) in
     record {
       recorded = ap records is ∙ records-add-turn p t
-        ∙ ap (λ (n : ℕ). records p ++ (records-of.Turn a b n x ∷ [])) (letter-of-class c known);
+          ∙ ap (λ (n : ℕ). records p ++ (records-of.Turn a b n x ∷ [])) (letter-of-class c known);
       one-link = λ before. absurd (omega arith);
-      one-turn = λ _. (ap (λ (q : Plan). length (q .turns)) is ∙ length-push (p .turns) t, ap (λ (q : Plan). length (q .links)) is)
+      one-turn = λ _. (ap (λ (q : Plan). length (q .turns)) is ∙ length-push (p .turns) t, ap (λ (q : Plan). length (q .links)) is);
     }
 
 pub record-added : (i links : ℕ) (bs : List ℕ) (p : Plan) → (i < links → p .turns ≡ []) → record-refusal p (record-in i links bs) ≡ None
@@ -114,8 +114,10 @@ record-added i links bs p none = ⊎-elim link turn (cases-lt i links)
   where
     Goal : Record → Type 0
     Goal r = record-refusal p r ≡ None → Added i links p (with-record p r) r
+
     link : i < links → Goal (record-in i links bs)
     link h = subst Goal (sym (link-comes i links bs h)) (link-added i links (two-at bs 0) (two-at bs 2) (four-at bs 4) (getD bs 8 0) p h (none h))
+
     turn : links ≤ i → Goal (record-in i links bs)
     turn h = subst Goal (sym (turn-comes i links bs h)) (turn-added i links (two-at bs 0) (two-at bs 2) (getD bs 4 0) (four-at bs 5) p h)
 
@@ -137,7 +139,7 @@ all-laid zero i links bs p q none e =
     record {
       recorded = ap records (sym same) ∙ sym (append-nil (records p));
       links-more = ap (λ (x : Plan). length (x .links)) (sym same) ∙ omega arith;
-      turns-more = let t : length (q .turns) ≡ length (p .turns) = ap (λ (x : Plan). length (x .turns)) (sym same) in omega arith
+      turns-more = let t : length (q .turns) ≡ length (p .turns) = ap (λ (x : Plan). length (x .turns)) (sym same) in omega arith;
     }
 all-laid (suc n) i links bs p q none e =
     let r = record-in i links bs in
@@ -147,13 +149,13 @@ all-laid (suc n) i links bs p q none e =
     let still : i + 1 < links → p′ .turns ≡ [] = λ h. added .one-link (omega arith) .0 ∙ none (omega arith) in
     let rest = all-laid n (i + 1) links (drop 9 bs) p′ q still (first .1) in
     let counts : (length (p′ .links) ≡ length (p .links) + (min (i + 1) links - i)) × (length (p′ .turns) + (min (i + 1) links - i) ≡ length (p .turns) + 1) =
-        ⊎-elim (λ h. let a = added .one-link h in let t : length (p′ .turns) ≡ length (p .turns) = ap length (a .0) in (omega (arith, a .1), omega arith))
-        (λ h. let a = added .one-turn h in (omega (arith, a .1), omega (arith, a .0))) (cases-lt i links) in
+    ⊎-elim (λ h. let a = added .one-link h in let t : length (p′ .turns) ≡ length (p .turns) = ap length (a .0) in (omega (arith, a .1), omega arith))
+    (λ h. let a = added .one-turn h in (omega (arith, a .1), omega (arith, a .0))) (cases-lt i links) in
     record {
       recorded = rest .recorded ∙ ap (λ (x : List Record). x ++ records-in (i + 1) links n (drop 9 bs)) (added .recorded)
-        ∙ append-assoc (records p) (r ∷ []) (records-in (i + 1) links n (drop 9 bs));
+          ∙ append-assoc (records p) (r ∷ []) (records-in (i + 1) links n (drop 9 bs));
       links-more = omega (arith, rest .links-more, counts .0);
-      turns-more = omega (arith, rest .turns-more, counts .1)
+      turns-more = omega (arith, rest .turns-more, counts .1);
     }
 
 -- the records that bytes hold have those bytes
@@ -163,8 +165,8 @@ bytes-back zero i links bs long all = sym (nil-from-length bs long)
 bytes-back (suc n) i links bs long all =
     let room : 9 ≤ length bs = omega arith in
     let first : record-bytes (record-in i links bs) ≡ take 9 bs =
-        ⊎-elim (λ h. ap record-bytes (link-comes i links bs h) ∙ link-back bs room all)
-        (λ h. ap record-bytes (turn-comes i links bs h) ∙ turn-back bs room all) (cases-lt i links) in
+    ⊎-elim (λ h. ap record-bytes (link-comes i links bs h) ∙ link-back bs room all)
+    (λ h. ap record-bytes (turn-comes i links bs h) ∙ turn-back bs room all) (cases-lt i links) in
     let left : length (drop 9 bs) ≡ 9 * n = length-drop 9 bs ∙ omega arith in
     ap₂ (λ (x y : List ℕ). x ++ y) first (bytes-back n (i + 1) links (drop 9 bs) left (octets-drop 9 bs all))
     ∙ take-append-drop 9 bs
@@ -178,7 +180,7 @@ entry-back kind place bs l all right =
     let at = four-back (getD bs 4 0) (getD bs 5 0) (getD bs 6 0) (getD bs 7 0) (all 4 (omega arith)) (all 5 (omega arith)) (all 6 (omega arith)) (all 7 (omega arith)) in
     eight bs l
     ∙ ap₂ (λ (x y : ℕ). x ∷ y ∷ getD bs 2 0 ∷ getD bs 3 0 ∷ getD bs 4 0 ∷ getD bs 5 0 ∷ getD bs 6 0 ∷ getD bs 7 0 ∷ [])
-      (eqb-true (getD bs 0 0) kind (a .0)) (eqb-true (getD bs 1 0) 0 (b .0))
+    (eqb-true (getD bs 0 0) kind (a .0)) (eqb-true (getD bs 1 0) 0 (b .0))
     ∙ ap₂ (λ (x y : List ℕ). kind ∷ 0 ∷ x ++ y) (sym count) (sym at)
     ∙ ap (λ (x : ℕ). kind ∷ 0 ∷ two (two-at bs 2) ++ four x) (eqb-true (four-at bs 4) place (b .1))
 
@@ -187,18 +189,19 @@ pub contents-back : (bs : List ℕ) → Octets bs → contents-right bs ≡ true
     → (length bs ≡ 16 + 9 * (links-told bs + turns-told bs)) × (contents (links-told bs) (turns-told bs) ++ drop 16 bs ≡ bs)
 contents-back bs all right =
     let a = and-parts (eqb (length bs) (16 + 9 * (links-told bs + turns-told bs)))
-        (entry-right 0x4C 16 bs && entry-right 0x54 (16 + 9 * links-told bs) (drop 8 bs)) right in
+    (entry-right 0x4C 16 bs && entry-right 0x54 (16 + 9 * links-told bs) (drop 8 bs)) right in
     let b = and-parts (entry-right 0x4C 16 bs) (entry-right 0x54 (16 + 9 * links-told bs) (drop 8 bs)) (a .1) in
     let long = eqb-true (length bs) (16 + 9 * (links-told bs + turns-told bs)) (a .0) in
     let rest : 8 ≤ length (drop 8 bs) = let e = length-drop 8 bs in omega arith in
     let one = entry-back 0x4C 16 bs (omega arith) all (b .0) in
-    let two′ = entry-back 0x54 (16 + 9 * links-told bs) (drop 8 bs) rest (octets-drop 8 bs all) (b .1) in
-    (long,
+    let two′ = entry-back 0x54 (16 + 9 * links-told bs) (drop 8 bs) rest (octets-drop 8 bs all) (b .1) in (
+      long,
       ap₂ (λ (x y : List ℕ). (x ++ y) ++ drop 16 bs) (sym one) (sym two′)
-      ∙ append-assoc (take 8 bs) (take 8 (drop 8 bs)) (drop 16 bs)
-      ∙ ap (λ (x : List ℕ). take 8 bs ++ (take 8 (drop 8 bs) ++ x)) (sym (drop-drop 8 8 bs))
-      ∙ ap (λ (x : List ℕ). take 8 bs ++ x) (take-append-drop 8 (drop 8 bs))
-      ∙ take-append-drop 8 bs)
+          ∙ append-assoc (take 8 bs) (take 8 (drop 8 bs)) (drop 16 bs)
+          ∙ ap (λ (x : List ℕ). take 8 bs ++ (take 8 (drop 8 bs) ++ x)) (sym (drop-drop 8 8 bs))
+          ∙ ap (λ (x : List ℕ). take 8 bs ++ x) (take-append-drop 8 (drop 8 bs))
+          ∙ take-append-drop 8 bs,
+    )
 
 -- the plan that an image holds has that image
 pub image-back : (bs : List ℕ) (q : Plan) → Octets bs → contents-right bs ≡ true

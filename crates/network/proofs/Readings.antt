@@ -42,9 +42,9 @@ refused-or-laid (Some n) laid refused b e = ap (λ (x : Bool). cond x refused la
 -- one record more: it is refused, or laid and the others follow
 pub record-next : (i links n : ℕ) (bs : List ℕ) (p : Plan) (b : Bool) → 0 < n → isSome (record-refusal p (record-in i links bs)) ≡ b
     → lay-all i p (records-in i links n bs)
-      ≡ cond b (not-laid (i + 1)) (lay-all (i + 1) (with-record p (record-in i links bs)) (records-in (i + 1) links (n - 1) (drop 9 bs)))
+    ≡ cond b (not-laid (i + 1)) (lay-all (i + 1) (with-record p (record-in i links bs)) (records-in (i + 1) links (n - 1) (drop 9 bs)))
 unfolding lay-all
 record-next i links n bs p b h e =
     ap (λ (rs : List Record). lay-all i p rs) (records-more i links n bs h)
     ∙ refused-or-laid (record-refusal p (record-in i links bs))
-      (lay-all (i + 1) (with-record p (record-in i links bs)) (records-in (i + 1) links (n - 1) (drop 9 bs))) (not-laid (i + 1)) b e
+    (lay-all (i + 1) (with-record p (record-in i links bs)) (records-in (i + 1) links (n - 1) (drop 9 bs))) (not-laid (i + 1)) b e

@@ -4,6 +4,7 @@ use native.Mathlib.Omega.{arith}
 use mathlib.Core.Path.{_≡_, refl, sym, ap, _∙_}
 use mathlib.Core.Bool.{Bool, true, false, cond}
 use mathlib.Core.List.{List, [], _∷_, _++_}
+use Rattle.std.specs.shelf.Lists.{All}
 use Rattle.std.specs.declared.option.Option.{Option}
 use Rattle.std.specs.declared.option.Option.the-variants.{Some, None}
 use Rattle.std.specs.declared.result.Result.{Result}
@@ -55,3 +56,8 @@ passed-both (r ∷ rows) more e =
     let p = passed-row r (rows ++ more) e in
     let q = passed-both rows more (p .1) in
     (ap (λ (b : Bool). cond b (Some (r .told)) (first-refusal rows)) (p .0) ∙ q .0, q .1)
+
+-- rows of which none applies
+pub none-applies : (rows : List Row) → All (λ r. r .applies ≡ false) rows → first-refusal rows ≡ None
+none-applies [] all = refl
+none-applies (r ∷ rows) all = ap (λ (b : Bool). cond b (Some (r .told)) (first-refusal rows)) (all .0) ∙ none-applies rows (all .1)

@@ -6,3 +6,4 @@ pub mod Laying
 pub mod Laid
 pub mod Image
 pub mod Reads
+pub mod Writes

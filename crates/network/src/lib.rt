@@ -11,6 +11,7 @@ mod streets;
 mod table;
 mod tables;
 mod turn;
+mod writing;
 
 pub use draft::Draft;
 pub use fault::ReadFault;

@@ -92,7 +92,11 @@ fn lay_records(links: usize, turns: usize, bytes: &[u8]) -> Result<Draft, ReadFa
     let mut draft = Draft::new();
     let mut left = bytes;
     for i in 0..links + turns {
-        let (record, rest) = if i < links { read_link(left) } else { read_turn(left) };
+        let (record, rest) = if i < links {
+            read_link(left)
+        } else {
+            read_turn(left)
+        };
         if draft.lay(record).is_err() {
             return Err(ReadFault::RecordNotLaid(i + 1));
         }

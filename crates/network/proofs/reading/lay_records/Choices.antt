@@ -10,4 +10,4 @@ abbrev pub Inv-loop-i : given.InvT-loop-i
 Inv-loop-i l =
     (length (l .left) ≡ 9 * (l .links + l .turns - l .i))
     × (lay-all (l .i) (drafted (l .draft)) (records-in (l .i) (l .links) (l .links + l .turns - l .i) (l .left))
-      ≡ lay-all 0 empty (records-in 0 (l .links) (l .links + l .turns) (l .bytes)))
+    ≡ lay-all 0 empty (records-in 0 (l .links) (l .links + l .turns) (l .bytes)))

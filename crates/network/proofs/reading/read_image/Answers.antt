@@ -31,7 +31,7 @@ returns-in-Break-draft c =
     let is : c .from-residual .result ≡ Err (c .in-Break-draft .field-0 .0) = p .1 ∙ ap Err (p .2) in
     subst (λ (r : Result (Unit {0}) ReadFault). Reads bs before r before) (sym is)
     (image-refused bs before (s .0) (c .in-Break-draft .field-0 .0)
-      (c .in-Break-draft .ensures tt ∙ bodies-are bs before (c .in-Some .links) (c .in-Some .turns) (c .in-Some .bodies .now) (s .1) (s .2) (s .3)))
+    (c .in-Break-draft .ensures tt ∙ bodies-are bs before (c .in-Some .links) (c .in-Some .turns) (c .in-Some .bodies .now) (s .1) (s .2) (s .3)))
 
 pub returns : need.returns
 returns c =
