@@ -7,3 +7,4 @@ pub mod Laid
 pub mod Image
 pub mod Reads
 pub mod Writes
+pub mod Marks

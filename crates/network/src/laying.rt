@@ -64,6 +64,21 @@ impl Draft {
         }
     }
 
+    // What is laid.
+    pub fn network(&self) -> &Network
+        ensures { λ r. ⌜ now r ≡ now (self .entry) .network ⌝ }
+    {
+        &self.network
+    }
+
+    // What is laid, for good.
+    pub fn into_network(self) -> Network
+        ensures { λ r. ⌜ r ≡ self .network ⌝ }
+    {
+        let Draft { network } = self;
+        network
+    }
+
     // Lays a link after those that are laid.
     pub fn lay_link(
         &mut self,
