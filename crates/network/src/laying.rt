@@ -5,14 +5,12 @@ ghost use Rattle.std.specs.declared.option.Option.the-variants.{Some};
 ghost use Rattle.network.specs.Refusals.{refusal-in, first-refusal};
 ghost use Rattle.network.specs.Laid.{plan, drafted};
 ghost use Rattle.network.specs.Letters.{class-of};
-ghost use Rattle.network.specs.Plan.{empty};
 ghost use Rattle.network.specs.Laying.{outside, link-refusal, with-link, pair-rows, letter-rows, turn-refusal, with-turn, record-refusal, with-record};
 use crate::draft::Draft;
 use crate::link::Link;
 use crate::network::Network;
 use crate::record::Record;
 use crate::refusal::Refusal;
-use crate::table::Table;
 use crate::turn::Turn;
 use crate::turn::class_of;
 
@@ -52,33 +50,6 @@ impl Network {
 }
 
 impl Draft {
-    // A draft in which nothing is laid.
-    pub fn new() -> Draft
-        ensures { λ r. ⌜ drafted r ≡ empty ⌝ }
-    {
-        Draft {
-            network: Network {
-                links: Table::new(Link::NONE),
-                turns: Table::new(Turn::NONE),
-            },
-        }
-    }
-
-    // What is laid.
-    pub fn network(&self) -> &Network
-        ensures { λ r. ⌜ now r ≡ now (self .entry) .network ⌝ }
-    {
-        &self.network
-    }
-
-    // What is laid, for good.
-    pub fn into_network(self) -> Network
-        ensures { λ r. ⌜ r ≡ self .network ⌝ }
-    {
-        let Draft { network } = self;
-        network
-    }
-
     // Lays a link after those that are laid.
     pub fn lay_link(
         &mut self,

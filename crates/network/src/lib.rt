@@ -23,5 +23,4 @@ pub use network::Network;
 pub use reading::read_image;
 pub use record::Record;
 pub use refusal::Refusal;
-pub use table::Table;
 pub use turn::Turn;

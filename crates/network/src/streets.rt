@@ -1,26 +1,11 @@
 // What is read of a network.
 ghost use mathlib.Core.Path.{_≡_};
-ghost use lib.ListN.{length};
 ghost use Rattle.network.specs.Laid.{plan};
 ghost use Rattle.network.specs.Plan.{Laid, laid, link, last-start, has-entry};
 use crate::link::Link;
 use crate::network::Network;
 
 impl Network {
-    // How many links are laid.
-    pub fn link_count(&self) -> usize
-        ensures { λ r. ⌜ r ≡ length (plan (now (self .entry)) .links) ⌝ }
-    {
-        self.links.len()
-    }
-
-    // How many turn entries are laid.
-    pub fn turn_count(&self) -> usize
-        ensures { λ r. ⌜ r ≡ length (plan (now (self .entry)) .turns) ⌝ }
-    {
-        self.turns.len()
-    }
-
     // Whether a link has the number.
     pub(crate) fn is_laid(&self, number: u32) -> bool
         ensures { λ r. ⌜ r ≡ laid (plan (now (self .entry)) .links) number ⌝ }

@@ -4,7 +4,7 @@ ghost use Prim.Native.Nat.{_≤_};
 ghost use lib.ListN.{length};
 
 #[derive(Drop)]
-pub struct Table<T: Copy, const N: usize> {
+pub(crate) struct Table<T: Copy, const N: usize> {
     pub(crate) places: [T; N],
     pub(crate) count: usize,
     ghost long: { length places ≡ N },

@@ -18,7 +18,7 @@ impl<T: Copy, const N: usize> Table<T, N> {
     }
 
     // How many values it holds.
-    pub fn len(&self) -> usize
+    pub(crate) fn len(&self) -> usize
         ensures { λ r. ⌜ r ≡ length (items (now (self .entry))) ⌝ }
     {
         self.count
@@ -33,7 +33,7 @@ impl<T: Copy, const N: usize> Table<T, N> {
     }
 
     // The values in their order.
-    pub fn as_slice(&self) -> &[T]
+    pub(crate) fn as_slice(&self) -> &[T]
         ensures { λ r. ⌜ now r ≡ items (now (self .entry)) ⌝ }
     {
         let all = &self.places[..];
