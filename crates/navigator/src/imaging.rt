@@ -1,7 +1,8 @@
 // The image of a sealed map.
-ghost use Rattle.network.specs.Writes.{Writes};
+ghost use Rattle.image.specs.Writes.{Writes};
 ghost use Rattle.navigator.specs.State.{state};
 use crate::map::Map;
+use image::write_network;
 use measure::Measure;
 use network::Refusal;
 
@@ -10,5 +11,5 @@ use network::Refusal;
 pub fn write_image<M: Measure + Drop>(map: &Map<M>, buffer: &mut [u8]) -> Result<usize, Refusal>
     ensures { λ r. ⌜ Writes (state (now (map .entry) .town) .plan) (now (buffer .entry)) r (now (buffer .exit)) ⌝ }
 {
-    map.town.network.write_image(buffer)
+    write_network(&map.town.network, buffer)
 }

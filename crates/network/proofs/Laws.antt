@@ -7,7 +7,7 @@ use mathlib.Core.Logic.{⊎-elim}
 use mathlib.Core.List.{List, [], _∷_, _++_}
 use lib.Dec.{eqb, leb, ltb}
 use lib.ListN.{length, getD}
-use Rattle.std.proofs.shelf.Lists.{getD-append-left, getD-push, length-push}
+use Rattle.std.proofs.shelf.Lists.{getD-append-left, getD-push, length-push, length-take-le}
 use Rattle.std.proofs.shelf.Tests.{cases-lt, or-parts, and-parts, not-false, ltb-false, leb-true, eqb-true}
 use Rattle.std.specs.Options.{isSome}
 use Rattle.std.specs.declared.option.Option.the-variants.{Some, None}
@@ -97,6 +97,12 @@ inside n e =
 
 pub lawful : (n : Network) → Lawful (plan n)
 lawful n = (n .sound, (n .rising, (n .marked, (n .meeting, (n .apart, tt)))))
+
+pub links-few : (n : Network) → length (plan n .links) ≤ 1024
+links-few n = omega (arith, length-take-le (n .links .count) (n .links .places) (omega arith))
+
+pub turns-few : (n : Network) → length (plan n .turns) ≤ 2048
+turns-few n = omega (arith, length-take-le (n .turns .count) (n .turns .places) (omega arith))
 
 pub lawful-add-link : (p : Plan) (new : List Link) (l : Link) → new ≡ p .links ++ l ∷ []
     → Lawful p → Link-within l → last-start (p .links) ≤ l .start → Lawful (record { links = new; turns = p .turns })

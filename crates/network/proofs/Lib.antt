@@ -1,11 +1,3 @@
+pub mod Rows
 pub mod Entries
 pub mod Laws
-pub mod Rows
-pub mod Contents
-pub mod Readings
-pub mod Octets
-pub mod ReadBack
-pub mod Answering
-pub mod Written
-pub mod WriteBack
-pub mod Writings

@@ -4,7 +4,4 @@ pub mod Plan
 pub mod Refusals
 pub mod Laying
 pub mod Laid
-pub mod Image
-pub mod Reads
-pub mod Writes
 pub mod Marks

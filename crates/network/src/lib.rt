@@ -1,26 +1,20 @@
 mod draft;
-mod entry;
-mod fault;
 mod laying;
 mod link;
 mod linkset;
 mod linksets;
 mod network;
-mod reading;
 mod record;
 mod refusal;
 mod streets;
 mod table;
 mod tables;
 mod turn;
-mod writing;
 
 pub use draft::Draft;
-pub use fault::ReadFault;
 pub use link::Link;
 pub use linkset::LinkSet;
 pub use network::Network;
-pub use reading::read_image;
 pub use record::Record;
 pub use refusal::Refusal;
 pub use turn::Turn;

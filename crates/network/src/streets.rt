@@ -4,8 +4,23 @@ ghost use Rattle.network.specs.Laid.{plan};
 ghost use Rattle.network.specs.Plan.{Laid, laid, link, last-start, has-entry};
 use crate::link::Link;
 use crate::network::Network;
+use crate::turn::Turn;
 
 impl Network {
+    // The links in the order of their numbers.
+    pub fn links(&self) -> &[Link]
+        ensures { λ r. ⌜ now r ≡ plan (now (self .entry)) .links ⌝ }
+    {
+        self.links.as_slice()
+    }
+
+    // The turn entries in their order.
+    pub fn turns(&self) -> &[Turn]
+        ensures { λ r. ⌜ now r ≡ plan (now (self .entry)) .turns ⌝ }
+    {
+        self.turns.as_slice()
+    }
+
     // Whether a link has the number.
     pub(crate) fn is_laid(&self, number: u32) -> bool
         ensures { λ r. ⌜ r ≡ laid (plan (now (self .entry)) .links) number ⌝ }

@@ -12,6 +12,19 @@ pub struct Turn {
 }
 
 impl Turn {
+    // The letter of the turn's class, as a byte.
+    pub fn letter(self) -> u8
+        ensures { λ r. ⌜ r ≡ letter-of (self .class) ⌝ }
+    {
+        match self.class {
+            0 => b'S',
+            1 => b'L',
+            2 => b'R',
+            3 => b'U',
+            _ => b'X',
+        }
+    }
+
     // What fills a place that holds no turn entry.
     pub(crate) const NONE: Turn = Turn {
         into: 0,
@@ -32,18 +45,5 @@ pub(crate) fn class_of(letter: char) -> Option<u8>
         'U' => Some(3),
         'X' => Some(4),
         _ => None,
-    }
-}
-
-// The letter of a class, as a byte.
-pub(crate) fn letter_of(class: u8) -> u8
-    ensures { λ r. ⌜ r ≡ letter-of class ⌝ }
-{
-    match class {
-        0 => b'S',
-        1 => b'L',
-        2 => b'R',
-        3 => b'U',
-        _ => b'X',
     }
 }

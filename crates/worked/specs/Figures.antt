@@ -6,7 +6,7 @@ use Prim.Native.Nat.{ℕ}
 use mathlib.Core.Path.{_≡_}
 use mathlib.Core.List.{List, [], _∷_, _++_}
 use Rattle.network.specs.Plan.{Plan, empty}
-use Rattle.network.specs.Image.{encode, decode, holds}
+use Rattle.image.specs.Image.{encode, decode, holds}
 use Rattle.worked.specs.Sample.{sample}
 
 pub data Figure : Type 0 where

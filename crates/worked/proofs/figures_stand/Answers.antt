@@ -1,6 +1,6 @@
 use mathlib.Core.Path.{refl}
 use Rattle.network.specs.Plan.{has-entry}
-use Rattle.network.specs.Image.{encode, decode, records-in, lay-all}
+use Rattle.image.specs.Image.{encode, decode, records-in, lay-all}
 use Rattle.worked.proofs.figures_stand.Needs as need
 
 pub returns : need.returns

@@ -1,0 +1,4 @@
+pub mod Image
+pub mod Reads
+pub mod Writes
+pub mod Steps
