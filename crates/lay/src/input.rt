@@ -16,10 +16,21 @@ fn read_some<R: Read + Drop>(input: R, heap: Global) -> io::Result<Vec<u8>> {
     Ok(text)
 }
 
+// All that a file holds, up to the limit.
+fn read_file(rt: &LibcRuntime, path: &str) -> Result<Vec<u8>, AnyError> {
+    match File::open(rt, path) {
+        Ok(file) => Ok(read_some(file, rt.alloc())?),
+        Err(error) => {
+            let message = format!(rt.alloc(), "cannot read {path}: {error}")?;
+            Err(message.into())
+        }
+    }
+}
+
 pub fn read_town(rt: &LibcRuntime) -> Result<Vec<u8>, AnyError> {
     let mut args = env::args(rt)?.skip(1);
     let text = match args.next() {
-        Some(path) => read_some(File::open(rt, path.as_str())?, rt.alloc())?,
+        Some(path) => read_file(rt, path.as_str())?,
         None => read_some(rt.stdin(), rt.alloc())?,
     };
     if text.len() as u64 > MOST_BYTES {

@@ -41,7 +41,10 @@ fn reads_back(heap: Global, image: &[u8]) -> Result<bool, AnyError> {
 pub fn write_map(rt: &LibcRuntime, draft: Draft) -> Result<(), AnyError> {
     let heap = rt.alloc();
     let image = image_of(heap, draft)?;
-    fs::write(rt, FILE, image.as_slice())?;
+    if let Err(error) = fs::write(rt, FILE, image.as_slice()) {
+        let message = format!(heap, "cannot write {FILE}: {error}")?;
+        return Err(message.into());
+    }
     let size = image.len();
     println!(rt, "wrote {size} bytes to {FILE}")?;
     let file = fs::read(rt, FILE)?;
