@@ -40,6 +40,13 @@ impl Draft {
         self.network.turns.len()
     }
 
+    // What is laid so far.
+    pub fn network(&self) -> &Network
+        ensures { λ r. ⌜ now r ≡ now (self .entry) .network ⌝ }
+    {
+        &self.network
+    }
+
     // The network that was laid; the draft is gone.
     pub fn into_network(self) -> Network
         ensures { λ r. ⌜ r ≡ self .network ⌝ }
