@@ -5,3 +5,5 @@ pub mod Refusals
 pub mod Laying
 pub mod Laid
 pub mod Marks
+pub mod Roads
+pub mod Changing

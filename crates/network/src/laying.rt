@@ -21,7 +21,7 @@ fn outside(node: u32) -> bool
 }
 
 // The class of a letter, where letter and extra are lawful.
-fn check_letter(letter: char, extra: u32) -> Result<u8, Refusal>
+pub(crate) fn check_letter(letter: char, extra: u32) -> Result<u8, Refusal>
     ensures answer { λ r. ⌜ refusal-in r ≡ first-refusal (letter-rows letter extra) ⌝ }
     ensures class { λ r. ⌜ made r (λ class. class-of letter ≡ Some class) ⌝ }
 {
@@ -36,7 +36,7 @@ fn check_letter(letter: char, extra: u32) -> Result<u8, Refusal>
 
 impl Network {
     // Whether both links of a pair are laid and meet.
-    fn check_pair(&self, into: u32, out: u32) -> Result<(), Refusal>
+    pub(crate) fn check_pair(&self, into: u32, out: u32) -> Result<(), Refusal>
         ensures { λ r. ⌜ refusal-in r ≡ first-refusal (pair-rows (plan (now (self .entry))) into out) ⌝ }
     {
         if !self.is_laid(into) || !self.is_laid(out) {

@@ -1,3 +1,4 @@
+mod changing;
 mod draft;
 mod laying;
 mod link;

@@ -25,6 +25,14 @@ impl Turn {
         }
     }
 
+    // Gives the entry another class and extra.
+    pub(crate) fn change(&mut self, class: u8, extra: u32)
+        ensures { λ _. ⌜ now (self .exit) ≡ record { into = now (self .entry) .into; out = now (self .entry) .out; class = class; extra = extra } ⌝ }
+    {
+        self.class = class;
+        self.extra = extra;
+    }
+
     // What fills a place that holds no turn entry.
     pub(crate) const NONE: Turn = Turn {
         into: 0,

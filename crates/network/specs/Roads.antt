@@ -1,0 +1,38 @@
+-- Roads: a plan, and which of its links are closed.
+--     closed roads n         link n has the closed mark
+--     turn turns into out    the turn of a pair: its entry, or straight on with extra 0 where it has none
+--     Passable roads n       link n is laid and not closed
+--     Joins roads a b        b may come straight after a: a ends where b starts, and the turn is not barred
+use Prim.Native.Nat.{ℕ}
+use mathlib.Core.Path.{_≡_}
+use mathlib.Core.Bool.{Bool, false, cond}
+use mathlib.Core.List.{List, [], _∷_}
+use lib.ListN.{getD}
+use Rattle.network.specs.declared.turn.Turn.{Turn}
+use Rattle.network.specs.Plan.{Plan, Laid, link, same-pair}
+
+-- the mark at place n - 1 is that of link n
+pub record Roads : Type 0 where
+  pub plan : Plan
+  pub marks : List Bool
+
+abbrev pub closed : Roads → ℕ → Bool
+closed roads n = getD (false ∷ roads .marks) n false
+
+abbrev pub straight-on : (into out : ℕ) → Turn
+straight-on into out = record { into = into; out = out; class = 0; extra = 0 }
+
+unfoldable pub turn : List Turn → (into out : ℕ) → Turn
+turn [] into out = straight-on into out
+turn (t ∷ turns) into out = cond (same-pair t into out) t (turn turns into out)
+
+abbrev pub barred : ℕ
+barred = 4
+
+abbrev pub Passable : Roads → ℕ → Type 0
+Passable roads n = Laid (roads .plan .links) n × (closed roads n ≡ false)
+
+abbrev pub Joins : Roads → ℕ → ℕ → Type 0
+Joins roads a b =
+    (link (roads .plan .links) a .end ≡ link (roads .plan .links) b .start)
+    × (turn (roads .plan .turns) a b .class ≡ barred → ⊥)
