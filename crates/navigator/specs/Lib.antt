@@ -1,1 +1,3 @@
+pub mod Questions
 pub mod State
+pub mod Calls

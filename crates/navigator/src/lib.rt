@@ -1,3 +1,5 @@
+mod asking;
+mod changes;
 mod imaging;
 mod map;
 mod question;

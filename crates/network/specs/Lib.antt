@@ -7,3 +7,4 @@ pub mod Laid
 pub mod Marks
 pub mod Roads
 pub mod Changing
+pub mod Shared

@@ -1,5 +1,6 @@
 // Laying links and turn entries in a draft.
 ghost use mathlib.Core.Path.{_≡_};
+ghost use mathlib.Core.Bool.{not};
 ghost use Rattle.std.specs.Vec.{made};
 ghost use Rattle.std.specs.declared.option.Option.the-variants.{Some};
 ghost use Rattle.network.specs.Refusals.{refusal-in, first-refusal};
@@ -14,10 +15,11 @@ use crate::refusal::Refusal;
 use crate::turn::Turn;
 use crate::turn::class_of;
 
-fn outside(node: u32) -> bool
-    ensures { λ r. ⌜ r ≡ outside node ⌝ }
+// Whether the number is a node.
+pub fn is_node(node: u32) -> bool
+    ensures { λ r. ⌜ r ≡ not (outside node) ⌝ }
 {
-    node < 1 || node > 512
+    node >= 1 && node <= 512
 }
 
 // The class of a letter, where letter and extra are lawful.
@@ -64,7 +66,7 @@ impl Draft {
         if self.network.links.len() == 1024 {
             return Err(Refusal::LinksFull);
         }
-        if outside(start) || outside(end) {
+        if !is_node(start) || !is_node(end) {
             return Err(Refusal::NodeOutside);
         }
         if start < u32::from(self.network.last_start()) {

@@ -13,6 +13,7 @@ mod tables;
 mod turn;
 
 pub use draft::Draft;
+pub use laying::is_node;
 pub use link::Link;
 pub use linkset::LinkSet;
 pub use network::Network;

@@ -22,7 +22,7 @@ impl Network {
     }
 
     // Whether a link has the number.
-    pub(crate) fn is_laid(&self, number: u32) -> bool
+    pub fn is_laid(&self, number: u32) -> bool
         ensures { λ r. ⌜ r ≡ laid (plan (now (self .entry)) .links) number ⌝ }
     {
         number >= 1 && number as usize <= self.links.len()

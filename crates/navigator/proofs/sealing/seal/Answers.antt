@@ -9,6 +9,6 @@ use Rattle.navigator.proofs.sealing.seal.Needs as need
 
 pub returns : need.returns
 returns g c = record {
-  town = ap₂ (λ (n : Network) (closed : List Bool). record { plan = plan n; closed = closed; question = Shut }) (c .into-network .ensures) (c .new .ensures);
+  town = ap₂ (λ (n : Network) (closed : List Bool). record { roads = record { plan = plan n; marks = closed }; question = Shut }) (c .into-network .ensures) (c .new .ensures);
   measure = refl;
 }
