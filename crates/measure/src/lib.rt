@@ -1,6 +1,21 @@
 mod measures;
 mod metres;
+mod narrowest;
+mod nostop;
+mod shown;
+mod texts;
+mod turnsfirst;
+mod writing;
 
 pub use measures::Measure;
 pub use metres::Metres;
 pub use metres::MetresMeasure;
+pub use narrowest::Narrowest;
+pub use narrowest::NarrowestMeasure;
+pub use nostop::no_stop_is_met;
+pub use shown::Shown;
+pub use texts::MetresShown;
+pub use texts::NarrowestShown;
+pub use texts::TurnsFirstShown;
+pub use turnsfirst::TurnsFirst;
+pub use turnsfirst::TurnsFirstMeasure;

@@ -1,0 +1,4 @@
+mod Puts
+mod Decimals
+mod Limits
+mod Sums

@@ -1,0 +1,2 @@
+pub mod Route
+pub mod Enumeration
