@@ -1,4 +1,4 @@
-mod Puts
-mod Decimals
-mod Limits
-mod Sums
+pub mod Puts
+pub mod Decimals
+pub mod Limits
+pub mod Sums

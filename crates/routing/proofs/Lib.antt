@@ -1,3 +1,4 @@
 pub mod Members
 pub mod Conditions
 pub mod Exactness
+pub mod Lengths
