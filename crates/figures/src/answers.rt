@@ -61,7 +61,7 @@ pub struct Counts {
 }
 
 impl Counts {
-    pub fn of(draft: &Draft) -> Counts
+    pub(crate) fn of(draft: &Draft) -> Counts
         ensures links { λ r. ⌜ r .links ≡ length (drafted (now (draft .entry)) .links) ⌝ }
         ensures turns { λ r. ⌜ r .turns ≡ length (drafted (now (draft .entry)) .turns) ⌝ }
     {

@@ -32,7 +32,12 @@ fn begins(bytes: &[u8], image: &[u8]) -> &'static str {
 }
 
 // Seals a draft, writes its image into a marked buffer of a size, and prints the answer and what the buffer holds.
-pub fn show_buffer(rt: &LibcRuntime, draft: Draft, size: usize, image: &[u8]) -> io::Result<()> {
+pub(crate) fn show_buffer(
+    rt: &LibcRuntime,
+    draft: Draft,
+    size: usize,
+    image: &[u8],
+) -> io::Result<()> {
     let map = navigator::seal(draft, Metres);
     let mut buffer = vec![in rt.alloc(); MARK; size]?;
     let answer = Writing(navigator::write_image(&map, buffer.as_mut_slice()));
@@ -59,7 +64,7 @@ fn show_empty(rt: &LibcRuntime) -> io::Result<()> {
 }
 
 // Writes the sample and the empty image, and reads them back.
-pub fn show_buffers(rt: &LibcRuntime) -> io::Result<()> {
+pub(crate) fn show_buffers(rt: &LibcRuntime) -> io::Result<()> {
     show_sizes(rt)?;
     show_empty(rt)?;
     show_buffer(rt, sample::recorded(), 106, sample::IMAGE)?;

@@ -151,7 +151,7 @@ fn show_cases(rt: &LibcRuntime, cases: &[ImageCase]) -> io::Result<()> {
 }
 
 // Reads each changed image.
-pub fn show_changes(rt: &LibcRuntime) -> io::Result<()> {
+pub(crate) fn show_changes(rt: &LibcRuntime) -> io::Result<()> {
     show_contents(rt)?;
     show_raised(rt)?;
     show_values(rt, "the contents", 0, 15)?;

@@ -54,7 +54,7 @@ fn digest(bytes: &[u8]) -> u32 {
 }
 
 // Lays the full map, seals and writes it, reads it back and writes it again.
-pub fn show_full(rt: &LibcRuntime) -> io::Result<()> {
+pub(crate) fn show_full(rt: &LibcRuntime) -> io::Result<()> {
     let mut draft = Draft::new();
     lay_links(&mut draft);
     lay_turns(&mut draft);

@@ -36,7 +36,7 @@ fn lay_turn(rt: &LibcRuntime, draft: &mut Draft, into: u32, out: u32) -> io::Res
 }
 
 // Two links and an entry are held. A refused image leaves them, and an accepted one takes their place.
-pub fn show_held(rt: &LibcRuntime) -> io::Result<()> {
+pub(crate) fn show_held(rt: &LibcRuntime) -> io::Result<()> {
     let mut draft = Draft::new();
     lay_link(rt, &mut draft, 2)?;
     lay_link(rt, &mut draft, 9)?;

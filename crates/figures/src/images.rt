@@ -14,7 +14,7 @@ use std::io;
 pub const FULL: usize = 27_664;
 
 // The image of what a draft holds, sealed.
-pub fn image_of(heap: Global, draft: Draft) -> Result<Vec<u8>, AllocError> {
+pub(crate) fn image_of(heap: Global, draft: Draft) -> Result<Vec<u8>, AllocError> {
     let map = navigator::seal(draft, Metres);
     let mut buffer = vec![in heap; 0u8; FULL]?;
     let size = navigator::write_image(&map, buffer.as_mut_slice()).unwrap_or(0);
@@ -23,7 +23,7 @@ pub fn image_of(heap: Global, draft: Draft) -> Result<Vec<u8>, AllocError> {
 }
 
 // The image of what a draft holds so far.
-pub fn image_so_far(heap: Global, draft: &Draft) -> Result<Vec<u8>, AllocError> {
+pub(crate) fn image_so_far(heap: Global, draft: &Draft) -> Result<Vec<u8>, AllocError> {
     let mut buffer = vec![in heap; 0u8; FULL]?;
     let size = image::write_network(draft.network(), buffer.as_mut_slice()).unwrap_or(0);
     buffer.truncate(size);
@@ -31,7 +31,11 @@ pub fn image_so_far(heap: Global, draft: &Draft) -> Result<Vec<u8>, AllocError> 
 }
 
 // Whether a draft still has the image that it had.
-pub fn change(heap: Global, image: &[u8], draft: &Draft) -> Result<&'static str, AllocError> {
+pub(crate) fn change(
+    heap: Global,
+    image: &[u8],
+    draft: &Draft,
+) -> Result<&'static str, AllocError> {
     let now = image_so_far(heap, draft)?;
     if now.as_slice() == image {
         Ok("unchanged")
@@ -41,13 +45,17 @@ pub fn change(heap: Global, image: &[u8], draft: &Draft) -> Result<&'static str,
 }
 
 // Whether a draft, sealed, has the bytes as its image.
-pub fn writes(heap: Global, draft: Draft, bytes: &[u8]) -> Result<bool, AllocError> {
+pub(crate) fn writes(heap: Global, draft: Draft, bytes: &[u8]) -> Result<bool, AllocError> {
     let image = image_of(heap, draft)?;
     Ok(image.as_slice() == bytes)
 }
 
 // How the image of a draft compares with the bytes.
-pub fn likeness(heap: Global, draft: Draft, bytes: &[u8]) -> Result<&'static str, AllocError> {
+pub(crate) fn likeness(
+    heap: Global,
+    draft: Draft,
+    bytes: &[u8],
+) -> Result<&'static str, AllocError> {
     if writes(heap, draft, bytes)? {
         Ok("written the same")
     } else {
@@ -56,7 +64,7 @@ pub fn likeness(heap: Global, draft: Draft, bytes: &[u8]) -> Result<&'static str
 }
 
 // Reads bytes into a fresh draft, and prints the answer and, where they are read, what the draft holds.
-pub fn show_reading(rt: &LibcRuntime, name: &str, bytes: &[u8]) -> io::Result<()> {
+pub(crate) fn show_reading(rt: &LibcRuntime, name: &str, bytes: &[u8]) -> io::Result<()> {
     let mut draft = Draft::new();
     let result = image::read_image(&mut draft, bytes);
     let answer = Reading(result);

@@ -16,7 +16,7 @@ fn show_span(rt: &LibcRuntime, from: usize, to: usize) -> io::Result<()> {
 }
 
 // Every length from 0 to 130: below the image, its own, and above it.
-pub fn show_lengths(rt: &LibcRuntime) -> io::Result<()> {
+pub(crate) fn show_lengths(rt: &LibcRuntime) -> io::Result<()> {
     show_span(rt, 0, 105)?;
     show_span(rt, 106, 106)?;
     show_span(rt, 107, 130)

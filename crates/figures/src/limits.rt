@@ -72,7 +72,7 @@ fn image(heap: Global, links: u16, turns: u16) -> Result<Vec<u8>, AllocError> {
 }
 
 // Reads the image of each of the counts.
-pub fn show_limits(rt: &LibcRuntime) -> io::Result<()> {
+pub(crate) fn show_limits(rt: &LibcRuntime) -> io::Result<()> {
     for (links, turns) in COUNTS {
         let bytes = image(rt.alloc(), links, turns)?;
         let size = bytes.len();

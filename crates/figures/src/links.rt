@@ -129,7 +129,7 @@ fn show_cases(rt: &LibcRuntime, cases: &[LinkCase]) -> io::Result<()> {
 }
 
 // Lays each link of the tables.
-pub fn show_links(rt: &LibcRuntime) -> io::Result<()> {
+pub(crate) fn show_links(rt: &LibcRuntime) -> io::Result<()> {
     show_cases(rt, &EDGES)?;
     show_cases(rt, &TOGETHER)
 }

@@ -53,7 +53,7 @@ fn lay_turns(draft: &mut Draft) {
 }
 
 // The sample map, laid.
-pub fn draft() -> Draft {
+pub(crate) fn draft() -> Draft {
     let mut draft = Draft::new();
     lay_links(&mut draft);
     lay_turns(&mut draft);
@@ -83,7 +83,7 @@ fn record_turns(draft: &mut Draft) {
 }
 
 // The sample map, laid record by record.
-pub fn recorded() -> Draft {
+pub(crate) fn recorded() -> Draft {
     let mut draft = Draft::new();
     record_links(&mut draft);
     record_turns(&mut draft);

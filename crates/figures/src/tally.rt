@@ -15,7 +15,7 @@ pub struct Tally {
 }
 
 impl Tally {
-    pub fn new() -> Tally {
+    pub(crate) fn new() -> Tally {
         Tally {
             read: 0,
             contents: 0,
@@ -25,7 +25,7 @@ impl Tally {
     }
 
     // Counts the answer for an image, and whether what is read is written the same.
-    pub fn count(&mut self, heap: Global, bytes: &[u8]) -> Result<(), AllocError> {
+    pub(crate) fn count(&mut self, heap: Global, bytes: &[u8]) -> Result<(), AllocError> {
         let mut draft = Draft::new();
         match image::read_image(&mut draft, bytes) {
             Ok(()) => {

@@ -195,7 +195,7 @@ fn show_cases(rt: &LibcRuntime, cases: &[TurnCase]) -> io::Result<()> {
 }
 
 // Lays each entry of the tables.
-pub fn show_turns(rt: &LibcRuntime) -> io::Result<()> {
+pub(crate) fn show_turns(rt: &LibcRuntime) -> io::Result<()> {
     show_cases(rt, &PAIRS)?;
     show_cases(rt, &EDGES)?;
     show_cases(rt, &TOGETHER)

@@ -27,7 +27,7 @@ fn read_file(rt: &LibcRuntime, path: &str) -> Result<Vec<u8>, AnyError> {
     }
 }
 
-pub fn read_town(rt: &LibcRuntime) -> Result<Vec<u8>, AnyError> {
+pub(crate) fn read_town(rt: &LibcRuntime) -> Result<Vec<u8>, AnyError> {
     let mut args = env::args(rt)?.skip(1);
     let text = match args.next() {
         Some(path) => read_file(rt, path.as_str())?,

@@ -38,7 +38,7 @@ fn reads_back(heap: Global, image: &[u8]) -> Result<bool, AnyError> {
 }
 
 // Seals a draft, writes its image to the file, and reads the file back.
-pub fn write_map(rt: &LibcRuntime, draft: Draft) -> Result<(), AnyError> {
+pub(crate) fn write_map(rt: &LibcRuntime, draft: Draft) -> Result<(), AnyError> {
     let heap = rt.alloc();
     let image = image_of(heap, draft)?;
     if let Err(error) = fs::write(rt, FILE, image.as_slice()) {

@@ -1,5 +1,5 @@
 -- The laws of a plan, kept when a link or an entry is laid after the others. Assumes nothing.
-use Prim.Native.Nat.{ℕ, suc, _+_, _<_, _≤_}
+use Prim.Native.Nat.{ℕ, zero, suc, _+_, _-_, _<_, _≤_}
 use native.Mathlib.Omega.{arith}
 use mathlib.Core.Path.{_≡_, refl, sym, ap, ap₂, subst, _∙_}
 use mathlib.Core.Bool.{Bool, true, false, cond, not, _||_}
@@ -198,3 +198,19 @@ turn-passed p into out letter extra e =
 pub letter-known : (letter extra : ℕ) → first-refusal (letter-rows letter extra) ≡ None → isSome (class-of letter) ≡ true
 letter-known letter extra e =
     not-false (isSome (class-of letter)) (passed-row (row 9 (not (isSome (class-of letter)))) (row 10 (ltb 1000000 extra) ∷ []) e .0)
+
+-- the starts never fall over any number of links
+pub starts-rise-through : (links : List Link) → Starts-rise links → (i k : ℕ) → i + k < length links
+    → getD links i no-link .start ≤ getD links (i + k) no-link .start
+starts-rise-through links rise i zero h = let e : i + 0 ≡ i = omega arith in rw e (omega arith)
+starts-rise-through links rise i (suc k) h =
+    let before = starts-rise-through links rise i k (omega arith) in
+    let up = rise (i + k) (omega arith) in
+    let e : i + suc k ≡ i + k + 1 = omega arith in
+    rw e (omega arith)
+
+pub starts-rise-to : (links : List Link) → Starts-rise links → (i j : ℕ) → i ≤ j → j < length links
+    → getD links i no-link .start ≤ getD links j no-link .start
+starts-rise-to links rise i j low h =
+    let e : i + (j - i) ≡ j = omega arith in
+    subst (λ (n : ℕ). getD links i no-link .start ≤ getD links n no-link .start) e (starts-rise-through links rise i (j - i) (omega arith))

@@ -6,3 +6,4 @@ pub mod Bits
 pub mod Words
 pub mod Marked
 pub mod Shares
+pub mod Turns

@@ -1,6 +1,7 @@
 // What is read of a network.
 ghost use mathlib.Core.Path.{_≡_};
 ghost use Rattle.network.specs.Laid.{plan};
+ghost use Rattle.network.specs.Roads.{turn, Links-below};
 ghost use Rattle.network.specs.Plan.{Laid, laid, link, last-start, has-entry};
 use crate::link::Link;
 use crate::network::Network;
@@ -58,5 +59,41 @@ impl Network {
             }
         }
         false
+    }
+
+    // The turn of a pair: its entry, or straight on with no extra where it has none.
+    pub fn turn_of(&self, into: u16, out: u16) -> Turn
+        ensures { λ r. ⌜ r ≡ turn (plan (now (self .entry)) .turns) into out ⌝ }
+    {
+        let turns = self.turns.as_slice();
+        for entry in turns {
+            if entry.into == into && entry.out == out {
+                return *entry;
+            }
+        }
+        Turn {
+            into,
+            out,
+            class: 0,
+            extra: 0,
+        }
+    }
+
+    // How many links start below a node: the links that start there come next, one after another.
+    pub fn links_below(&self, node: u32) -> usize
+        ensures { λ r. ⌜ Links-below (plan (now (self .entry)) .links) node r ⌝ }
+    {
+        let links = self.links.as_slice();
+        let mut low = 0;
+        let mut high = links.len();
+        while low < high {
+            let middle = low + (high - low) / 2;
+            if u32::from(links[middle].start) < node {
+                low = middle + 1;
+            } else {
+                high = middle;
+            }
+        }
+        low
     }
 }
