@@ -2,6 +2,13 @@
 ghost use Rattle.routing.specs.Enumeration.{Exact};
 ghost use Rattle.routing.specs.Unstopped.{Routes-unstopped};
 
+mod places;
+mod roads;
+mod steps;
+
+pub use places::route_in;
+pub use roads::Roads;
+
 // The enumeration of the simple routes has each of them, and no other list.
 pub fn enumeration_is_exact()
     ensures { λ _. ⌜ Exact ⌝ }
