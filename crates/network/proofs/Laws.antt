@@ -102,7 +102,7 @@ pub links-few : (n : Network) → length (plan n .links) ≤ 1024
 links-few n = omega (arith, length-take-le (n .links .count) (n .links .places) (omega arith))
 
 pub turns-few : (n : Network) → length (plan n .turns) ≤ 2048
-turns-few n = omega (arith, length-take-le (n .turns .count) (n .turns .places) (omega arith))
+turns-few n = omega (arith, length-take-le (n .turns .entries .count) (n .turns .entries .places) (omega arith))
 
 pub lawful-add-link : (p : Plan) (new : List Link) (l : Link) → new ≡ p .links ++ l ∷ []
     → Lawful p → Link-within l → last-start (p .links) ≤ l .start → Lawful (record { links = new; turns = p .turns })

@@ -5,7 +5,7 @@ use Rattle.network.specs.Tables.{items}
 use Rattle.network.specs.Plan.{Plan}
 
 abbrev pub plan : Network → Plan
-plan n = record { links = items (n .links); turns = items (n .turns) }
+plan n = record { links = items (n .links); turns = items (n .turns .entries) }
 
 abbrev pub drafted : Draft → Plan
 drafted d = plan (d .network)

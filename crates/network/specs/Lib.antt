@@ -1,6 +1,7 @@
 pub mod Tables
 pub mod Letters
 pub mod Plan
+pub mod Index
 pub mod Refusals
 pub mod Laying
 pub mod Laid

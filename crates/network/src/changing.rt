@@ -1,11 +1,8 @@
 // Changing the turn of a pair.
 ghost use mathlib.Core.Path.{_≡_};
-ghost use mathlib.Core.Bool.{true, false};
-ghost use Prim.Native.Nat.{ℕ, _<_};
-ghost use lib.ListN.{length, getD, set};
-ghost use Rattle.std.specs.Options.{Cases};
+ghost use Prim.Native.Nat.{_<_};
+ghost use lib.ListN.{length};
 ghost use Rattle.network.specs.Tables.{items};
-ghost use Rattle.network.specs.Plan.{no-turn, same-pair, has-entry};
 ghost use Rattle.network.specs.Refusals.{refusal-in};
 ghost use Rattle.network.specs.Laid.{plan};
 ghost use Rattle.network.specs.Changing.{set-turn-refusal, with-set-turn, changed-at};
@@ -16,22 +13,6 @@ use crate::table::Table;
 use crate::turn::Turn;
 
 impl Network {
-    // The place of a pair's entry, counted from 0.
-    fn place_of(&self, into: u32, out: u32) -> Option<usize>
-        ensures { λ r. ⌜ Cases r (has-entry (plan (now (self .entry)) .turns) into out ≡ false)
-            (λ i. (i < length (plan (now (self .entry)) .turns))
-            × (same-pair (getD (plan (now (self .entry)) .turns) i no-turn) into out ≡ true)
-            × ((k : ℕ) → k < i → same-pair (getD (plan (now (self .entry)) .turns) k no-turn) into out ≡ false)) ⌝ }
-    {
-        let turns = self.turns.as_slice();
-        for (i, turn) in turns.iter().enumerate() {
-            if u32::from(turn.into) == into && u32::from(turn.out) == out {
-                return Some(i);
-            }
-        }
-        None
-    }
-
     // Changes the entry of a pair, or adds one after the others where the pair has none.
     pub fn set_turn(&mut self, into: u32, out: u32, letter: char, extra: u32) -> Result<(), Refusal>
         ensures answer { λ r. ⌜ refusal-in r ≡ set-turn-refusal (plan (now (self .entry))) into out letter extra ⌝ }
@@ -58,7 +39,7 @@ impl Network {
 
 impl Table<Turn, 2048> {
     // Lends the entry at a place, and gives it another class and extra.
-    fn change_at(&mut self, place: usize, class: u8, extra: u32)
+    pub(crate) fn change_at(&mut self, place: usize, class: u8, extra: u32)
         requires { ⌜ place < length (items (now self)) ⌝ }
         ensures { λ _. ⌜ items (now (self .exit)) ≡ changed-at (items (now (self .entry))) place class extra ⌝ }
     {

@@ -6,7 +6,7 @@ ghost use Rattle.network.specs.Laid.{drafted};
 use crate::link::Link;
 use crate::network::Network;
 use crate::table::Table;
-use crate::turn::Turn;
+use crate::turntable::TurnTable;
 
 #[derive(Drop)]
 pub struct Draft {
@@ -21,7 +21,7 @@ impl Draft {
         Draft {
             network: Network {
                 links: Table::new(Link::NONE),
-                turns: Table::new(Turn::NONE),
+                turns: TurnTable::new(),
             },
         }
     }

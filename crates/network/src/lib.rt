@@ -11,6 +11,8 @@ mod streets;
 mod table;
 mod tables;
 mod turn;
+mod turntable;
+mod turntables;
 
 pub use draft::Draft;
 pub use laying::is_node;

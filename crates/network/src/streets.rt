@@ -2,6 +2,7 @@
 ghost use mathlib.Core.Path.{_≡_};
 ghost use Rattle.network.specs.Laid.{plan};
 ghost use Rattle.network.specs.Roads.{turn, Links-below};
+ghost use Rattle.network.specs.Changing.{Entry-place};
 ghost use Rattle.network.specs.Plan.{Laid, laid, link, last-start, has-entry};
 use crate::link::Link;
 use crate::network::Network;
@@ -48,34 +49,35 @@ impl Network {
         self.links.get(count - 1).start
     }
 
+    // A place of the pair's entry, counted from 0.
+    pub(crate) fn place_of(&self, into: u32, out: u32) -> Option<usize>
+        ensures { λ r. ⌜ Entry-place (plan (now (self .entry)) .turns) into out r ⌝ }
+    {
+        if into > 1024 || out > 1024 {
+            return None;
+        }
+        self.turns.find(into as u16, out as u16)
+    }
+
     // Whether the pair has an entry.
     pub(crate) fn has_entry(&self, into: u32, out: u32) -> bool
         ensures { λ r. ⌜ r ≡ has-entry (plan (now (self .entry)) .turns) into out ⌝ }
     {
-        let turns = self.turns.as_slice();
-        for turn in turns {
-            if u32::from(turn.into) == into && u32::from(turn.out) == out {
-                return true;
-            }
-        }
-        false
+        self.place_of(into, out).is_some()
     }
 
     // The turn of a pair: its entry, or straight on with no extra where it has none.
     pub fn turn_of(&self, into: u16, out: u16) -> Turn
         ensures { λ r. ⌜ r ≡ turn (plan (now (self .entry)) .turns) into out ⌝ }
     {
-        let turns = self.turns.as_slice();
-        for entry in turns {
-            if entry.into == into && entry.out == out {
-                return *entry;
-            }
-        }
-        Turn {
-            into,
-            out,
-            class: 0,
-            extra: 0,
+        match self.place_of(u32::from(into), u32::from(out)) {
+            Some(place) => self.turns.get(place),
+            None => Turn {
+                into,
+                out,
+                class: 0,
+                extra: 0,
+            },
         }
     }
 

@@ -1,13 +1,16 @@
-use mathlib.Core.Path.{_≡_, sym, ap, _∙_}
-use mathlib.Core.List.{List}
-use native.Mathlib.Omega.{arith}
-use Rattle.network.specs.declared.turn.Turn.{Turn}
-use Rattle.network.specs.Plan.{has-entry}
-use Rattle.network.proofs.Entries.{none-has-entry}
+use mathlib.Core.Logic.{inl, inr, ⊎-elim}
+use Rattle.network.specs.Laid.{plan}
+use Rattle.network.proofs.Laws.{links-few}
+use Rattle.network.proofs.Places.{found-place, no-entry-above}
 use Rattle.network.proofs.network.Network.place_of.Needs as need
+
+pub returns-then-into-gt1024 : need.returns-then-into-gt1024
+returns-then-into-gt1024 c =
+    let net = c .args .self .now in
+    no-entry-above (plan net .links) (plan net .turns) (c .args .into) (c .args .out) (links-few net) (net .meeting)
+    (⊎-elim inl (λ h. inr (h .1)) (c .then-into-gt1024 .either))
 
 pub returns : need.returns
 returns c =
-    let turns = c .as-slice-turns .result .now in
-    ap (λ (ts : List Turn). has-entry ts (c .args .into) (c .args .out)) (sym (c .as-slice-turns .ensures))
-    ∙ none-has-entry turns (c .args .into) (c .args .out) (λ k l. c .loop-i .inv k (omega arith))
+    let net = c .args .self .now in
+    found-place (plan net .turns) (c .args .into) (c .args .out) (net .apart) (c .find .result) (c .find .ensures)
