@@ -15,20 +15,20 @@ use Rattle.completion.proofs.Graphs.{graph_size}
 use Rattle.completion.proofs.Cheapest.{dear_from, none_below, depth_view, room_for, all_threaded, cheapest, same_setting}
 use Rattle.completion.proofs.completing.complete.Goals as goal
 
-pub returns-then-is-dear : goal.returns-then-is-dear
-returns-then-is-dear g c =
+pub returns-then-is_dear : goal.returns-then-is_dear
+returns-then-is_dear g c =
     let rank = g.M.Measure.rank in
     let m = g.M.Measure.ranks c.args.measure.now in
     let bound = option_map rank c.args.bound in
     let p = c.args.beginning.links.now in (
       dear_from m (g.M.Measure.lawful c.args.measure.now) (lent c.args.trip.roads) c.args.trip.from c.args.trip.to p
           (marks c.args.beginning.banned.now) (marks c.args.beginning.forbidden.now) bound c.requires.bans c.requires.begins
-          (ap (λ (x : ℕ). too_dear bound x) (sym c.requires.priced) ∙ sym c.is-dear.ensures ∙ c.if-is-dear.true),
+          (ap (λ (x : ℕ). too_dear bound x) (sym c.requires.priced) ∙ sym c.is_dear.ensures ∙ c.if-is_dear.true),
       refl,
     )
 
-pub returns-in-default : goal.returns-in-default
-returns-in-default g c =
+pub returns-in_default : goal.returns-in_default
+returns-in_default g c =
     let rank = g.M.Measure.rank in
     let m = g.M.Measure.ranks c.args.measure.now in
     let bound = option_map rank c.args.bound in
@@ -36,15 +36,15 @@ returns-in-default g c =
     let p = c.args.beginning.links.now in
     let banned = marks c.args.beginning.banned.now in
     let forbidden = marks c.args.beginning.forbidden.now in
-    let same = same_setting m roads c.args.trip.from c.args.trip.to p banned forbidden bound c.end-node.result c.last_link.result (rank c.args.beginning.cost)
-    c.end-node.ensures c.last_link.ensures c.requires.priced in (
+    let same = same_setting m roads c.args.trip.from c.args.trip.to p banned forbidden bound c.end_node.result c.last_link.result (rank c.args.beginning.cost)
+    c.end_node.ensures c.last_link.ensures c.requires.priced in (
       none_below m (g.M.Measure.lawful c.args.measure.now) roads c.args.trip.from c.args.trip.to p banned forbidden bound c.requires.bans c.requires.begins
-          (subst (λ (x : Setting). NoneSought (graph m x)) same c.in-default.ensures.ends),
+          (subst (λ (x : Setting). NoneSought (graph m x)) same c.in_default.ensures.ends),
       refl,
     )
 
-pub write-route-count-requires : goal.write-route-count-requires
-write-route-count-requires g c =
+pub write_route-count-requires : goal.write_route-count-requires
+write_route-count-requires g c =
     let rank = g.M.Measure.rank in
     let m = g.M.Measure.ranks c.args.measure.now in
     let lawful = g.M.Measure.lawful c.args.measure.now in
@@ -60,7 +60,7 @@ write-route-count-requires g c =
     let tree = c.grow.new.tree in
     let st = view rank begin labels tree in
     let few = links_few c.args.trip.roads.network.now in
-    let same = same_setting m roads from to p banned forbidden bound c.end-node.result c.last_link.result begin c.end-node.ensures c.last_link.ensures c.requires.priced in
+    let same = same_setting m roads from to p banned forbidden bound c.end_node.result c.last_link.result begin c.end_node.ensures c.last_link.ensures c.requires.priced in
     let t = c.in-Some.number in
     let grown = c.in-Some.ensures in
     let best = subst (λ (x : Setting). EndsBest (graph m x) st t) same grown.ends in
@@ -74,8 +74,8 @@ write-route-count-requires g c =
       threaded = all_threaded m lawful roads from to p banned forbidden bound c.requires.bans c.requires.begins rank begin labels tree grown.inv.0 _ (tally tree) inv t best few;
     }
 
-pub label-of-requires : goal.label-of-requires
-label-of-requires g c =
+pub label_of-requires : goal.label_of-requires
+label_of-requires g c =
     let rank = g.M.Measure.rank in
     let m = g.M.Measure.ranks c.args.measure.now in
     let lawful = g.M.Measure.lawful c.args.measure.now in
@@ -91,7 +91,7 @@ label-of-requires g c =
     let tree = c.grow.new.tree in
     let st = view rank begin labels tree in
     let few = links_few c.args.trip.roads.network.now in
-    let same = same_setting m roads from to p banned forbidden bound c.end-node.result c.last_link.result begin c.end-node.ensures c.last_link.ensures c.requires.priced in
+    let same = same_setting m roads from to p banned forbidden bound c.end_node.result c.last_link.result begin c.end_node.ensures c.last_link.ensures c.requires.priced in
     let t = c.in-Some.number in
     let grown = c.in-Some.ensures in
     let best = subst (λ (x : Setting). EndsBest (graph m x) st t) same grown.ends in
@@ -116,12 +116,12 @@ returns g c =
     let tree = c.grow.new.tree in
     let st = view rank begin labels tree in
     let few = links_few c.args.trip.roads.network.now in
-    let same = same_setting m roads from to p banned forbidden bound c.end-node.result c.last_link.result begin c.end-node.ensures c.last_link.ensures c.requires.priced in
+    let same = same_setting m roads from to p banned forbidden bound c.end_node.result c.last_link.result begin c.end_node.ensures c.last_link.ensures c.requires.priced in
     let t = c.in-Some.number in
     let grown = c.in-Some.ensures in
     let best = subst (λ (x : Setting). EndsBest (graph m x) st t) same grown.ends in
     let inv = subst (λ (x : Setting). Inv (graph m x) grown.inv.0 (length roads.plan.links + 1) (tally tree) st) same grown.inv.1 in
     let size = graph_size m (outset m roads from to p banned forbidden bound) in
     cheapest m lawful roads from to p banned forbidden bound c.requires.bans c.requires.begins rank begin labels tree grown.inv.0 _ (tally tree) inv t best few
-    c.args.line.now c.write-route-count.new.line c.write-route-count.result c.label-of.result c.write-route-count.auto.line
-    (omega (arith, best.low, best.high, size, few, c.requires.room.0, c.grow.auto.labels)) c.label-of.ensures c.write-route-count.ensures
+    c.args.line.now c.write_route-count.new.line c.write_route-count.result c.label_of.result c.write_route-count.auto.line
+    (omega (arith, best.low, best.high, size, few, c.requires.room.0, c.grow.auto.labels)) c.label_of.ensures c.write_route-count.ensures

@@ -16,22 +16,22 @@ use Rattle.completion.proofs.Settling.{nothing_left, inside, ends_best, tally_mo
 use Rattle.completion.proofs.growing.grow.Goals as goal
 
 pub loop-number-init : goal.loop-number-init
-loop-number-init g c = (0, c.set-out.ensures)
+loop-number-init g c = (0, c.set_out.ensures)
 
-pub take-least-requires : goal.take-least-requires
-take-least-requires g c = record { room = omega (arith, c.requires.room, c.set-out.auto.labels, c.loop-number.auto.labels); sound = c.loop-number.invariant.1.ready.sound }
+pub take_least-requires : goal.take_least-requires
+take_least-requires g c = record { room = omega (arith, c.requires.room, c.set_out.auto.labels, c.loop-number.auto.labels); sound = c.loop-number.invariant.1.ready.sound }
 
-pub returns-in-default : goal.returns-in-default
-returns-in-default g c =
+pub returns-in_default : goal.returns-in_default
+returns-in_default g c =
     let rank = g.M.Measure.rank in
     let m = g.M.Measure.ranks c.args.measure.now in
     let s = setting rank c.args.quest.now in
     let law = graph_laws m (g.M.Measure.lawful c.args.measure.now) s in
     let inv = c.loop-number.invariant in
-    let took = c.in-default.ensures in
+    let took = c.in_default.ensures in
     record {
       ends = nothing_left rank m s law c.loop-number.labels c.loop-number.tree inv.0 inv.1 took.takes.0;
-      inv = taken_inv rank m s law c.loop-number.labels c.loop-number.tree inv.0 inv.1 c.take-least.new.self took.depth took.before took.settled;
+      inv = taken_inv rank m s law c.loop-number.labels c.loop-number.tree inv.0 inv.1 c.take_least.new.self took.depth took.before took.settled;
     }
 
 pub bounds-links-at : goal.bounds-links-at
@@ -57,19 +57,19 @@ returns-then-end-quest g c =
     let end : (link s.plan.links t).end ≡ s.to =
     ap (λ (l : Link). l.end) (link_at s.plan.links t in_t.0) ∙ ap (λ (ls : List Link). (get_or ls (t - 1) no_link).end) (sym c.links.ensures) ∙ c.if-end-quest.true in
     record {
-      ends = taken_ends rank m s law c.loop-number.labels c.loop-number.tree inv.0 inv.1 c.take-least.new.self took.depth took.before took.settled t
+      ends = taken_ends rank m s law c.loop-number.labels c.loop-number.tree inv.0 inv.1 c.take_least.new.self took.depth took.before took.settled t
           (ends_best rank m s law c.loop-number.labels c.loop-number.tree inv.0 inv.1 t took.takes.least end);
-      inv = taken_inv rank m s law c.loop-number.labels c.loop-number.tree inv.0 inv.1 c.take-least.new.self took.depth took.before took.settled;
+      inv = taken_inv rank m s law c.loop-number.labels c.loop-number.tree inv.0 inv.1 c.take_least.new.self took.depth took.before took.settled;
     }
 
 pub bounds-labels-at : goal.bounds-labels-at
 bounds-labels-at g c =
     let few = c.in-Some.ensures.takes.least.high in
     let low = c.in-Some.ensures.takes.least.low in
-    omega (arith, few, low, c.requires.room, c.set-out.auto.labels, c.loop-number.auto.labels)
+    omega (arith, few, low, c.requires.room, c.set_out.auto.labels, c.loop-number.auto.labels)
 
-pub relax-from-requires : goal.relax-from-requires
-relax-from-requires g c =
+pub relax_from-requires : goal.relax_from-requires
+relax_from-requires g c =
     let rank = g.M.Measure.rank in
     let m = g.M.Measure.ranks c.args.measure.now in
     let s = setting rank c.args.quest.now in
@@ -91,7 +91,7 @@ relax-from-requires g c =
     let e3 = done.before ∙ took.before in
     let sound = subst (λ (f : Frontier). Sound (map rank labels) f) (sym done.frontier) took.sound in
     let gone = subst (λ (f : Frontier). Changed tree.frontier f t false) (sym done.frontier) took.takes.gone in
-    let room : 1024 ≤ length labels = omega (arith, c.requires.room, c.set-out.auto.labels, c.loop-number.auto.labels) in
+    let room : 1024 ≤ length labels = omega (arith, c.requires.room, c.set_out.auto.labels, c.loop-number.auto.labels) in
     record {
       room = room;
       stands = settled_stands rank m s law labels tree inv.0 inv.1 t least tree' least.high on e1 e2 e3 sound gone _ refl refl (sym node) room c.index-labels-at.is refl;
@@ -100,7 +100,7 @@ relax-from-requires g c =
     }
 
 pub loop-number-preserved : goal.loop-number-preserved
-loop-number-preserved g c = (c.in-Some.number, c.relax-from.ensures.growing)
+loop-number-preserved g c = (c.in-Some.number, c.relax_from.ensures.growing)
 
 pub loop-number-smaller : goal.loop-number-smaller
 loop-number-smaller g c =
@@ -123,5 +123,5 @@ loop-number-smaller g c =
     (done.settled ∙ ap (λ (x : LinkSet). marked (marks x) t true) took.settled) (done.depth ∙ took.depth) (done.before ∙ took.before)
     (subst (λ (f : Frontier). Sound (map rank labels) f) (sym done.frontier) took.sound)
     (subst (λ (f : Frontier). Changed tree.frontier f t false) (sym done.frontier) took.takes.gone) in
-    let same : tally c.relax-from.new.tree ≡ tally c.settle.new.self = ap (λ (x : LinkSet). count_by (λ b. b) (marks x)) c.relax-from.ensures.settled in
+    let same : tally c.relax_from.new.tree ≡ tally c.settle.new.self = ap (λ (x : LinkSet). count_by (λ b. b) (marks x)) c.relax_from.ensures.settled in
     omega (arith, more, same, tally_few rank s.cost c.settle.new.self)

@@ -7,8 +7,8 @@ use Rattle.completion.proofs.Ways.{fresh_inv, fresh_late}
 use Rattle.completion.proofs.Views.{label_none, depth_none, clear_fresh, clear_ready, clear_tally}
 use Rattle.completion.proofs.growing.set_out.Goals as goal
 
-pub relax-from-requires : goal.relax-from-requires
-relax-from-requires g c =
+pub relax_from-requires : goal.relax_from-requires
+relax_from-requires g c =
     let rank = g.M.Measure.rank in
     let m = g.M.Measure.ranks c.args.measure.now in
     let s = setting rank c.args.quest.now in

@@ -9,41 +9,41 @@ use Rattle.completion.proofs.relaxing.tried.Goals as goal
 use Rattle.completion.proofs.relaxing.tried.Goals.{then-is-blocked-via-then-is-blocked, then-is-blocked-via-else-is-blocked+then-has}
 use Rattle.completion.proofs.relaxing.tried.Goals.{else-tree-at-gt0-via-then-tree-at-gt0+else-not-is-cheaper, else-tree-at-gt0-via-else-tree-at-gt0}
 
-pub returns-then-is-blocked : goal.returns-then-is-blocked
-returns-then-is-blocked g c =
+pub returns-then-is_blocked : goal.returns-then-is_blocked
+returns-then-is_blocked g c =
     let rank = g.M.Measure.rank in
     let m = g.M.Measure.ranks c.args.measure.now in
     let s = setting rank c.args.quest.now in
     let st = view rank s.cost c.args.labels.now c.args.tree.now in
-    elim c.then-is-blocked.branch [
+    elim c.then-is_blocked.branch [
       | then-is-blocked-via-then-is-blocked w ↦
-          fine_blocked m s st c.args.stand.number c.args.number (sym (c.is-blocked.ensures rank) ∙ w.if-is-blocked.true)
+          fine_blocked m s st c.args.stand.number c.args.number (sym (c.is_blocked.ensures rank) ∙ w.if-is_blocked.true)
       | then-is-blocked-via-else-is-blocked+then-has w ↦
           fine_settled m s st c.args.stand.number c.args.number
           (settled_at rank s.cost c.args.labels.now c.args.tree.now c.args.number (omega (arith, c.requires.laid.0))
           ∙ sym w.has.ensures ∙ w.if-has.true)
     ]
 
-pub returns-in-default : goal.returns-in-default
-returns-in-default g c =
+pub returns-in_default : goal.returns-in_default
+returns-in_default g c =
     let rank = g.M.Measure.rank in
     let m = g.M.Measure.ranks c.args.measure.now in
     let s = setting rank c.args.quest.now in
     let st = view rank s.cost c.args.labels.now c.args.tree.now in
-    fine_barred m s st c.args.stand.number c.args.number (ap (λ (a : ℕ). open_turn s.plan a c.args.number) (sym c.requires.stands.after) ∙ c.in-default.ensures)
+    fine_barred m s st c.args.stand.number c.args.number (ap (λ (a : ℕ). open_turn s.plan a c.args.number) (sym c.requires.stands.after) ∙ c.in_default.ensures)
 
-pub returns-then-is-dear : goal.returns-then-is-dear
-returns-then-is-dear g c =
+pub returns-then-is_dear : goal.returns-then-is_dear
+returns-then-is_dear g c =
     let rank = g.M.Measure.rank in
     let m = g.M.Measure.ranks c.args.measure.now in
     let s = setting rank c.args.quest.now in
     let st = view rank s.cost c.args.labels.now c.args.tree.now in
     let e = on_is m s st c.args.stand.number c.args.number c.args.stand.after (rank c.args.stand.cost) (rank c.in-Some.cost)
     c.requires.stands.after c.requires.stands.label c.in-Some.ensures.1 in
-    fine_dear m s st c.args.stand.number c.args.number (rank c.in-Some.cost) e (sym c.is-dear.ensures ∙ c.if-is-dear.true)
+    fine_dear m s st c.args.stand.number c.args.number (rank c.in-Some.cost) e (sym c.is_dear.ensures ∙ c.if-is_dear.true)
 
-pub returns-then-not-is-cheaper : goal.returns-then-not-is-cheaper
-returns-then-not-is-cheaper g c =
+pub returns-then-not-is_cheaper : goal.returns-then-not-is_cheaper
+returns-then-not-is_cheaper g c =
     let rank = g.M.Measure.rank in
     let m = g.M.Measure.ranks c.args.measure.now in
     let s = setting rank c.args.quest.now in
@@ -53,7 +53,7 @@ returns-then-not-is-cheaper g c =
     c.requires.stands.after c.requires.stands.label c.in-Some.ensures.1 in
     let known = label_at rank s.cost c.args.labels.now c.args.tree.now c.args.number c.index-labels-at.result some (omega (arith, links_few c.args.quest.now.network.now, c.requires.laid.1)) c.index-labels-at.is in
     let deep = depth_at rank s.cost c.args.labels.now c.args.tree.now c.args.number some in
-    let low = ltb-false _ _ (sym c.if-not-is-cheaper.ensures) in
+    let low = ltb-false _ _ (sym c.if-not-is_cheaper.ensures) in
     fine_known m s st c.args.stand.number c.args.number (rank c.in-Some.cost) e (omega (arith, deep, c.if-tree-at-gt0.true)) (omega (arith, known, low))
 
 pub returns : goal.returns
@@ -69,13 +69,13 @@ returns g c =
     c.requires.stands.after c.requires.stands.label c.in-Some.ensures.1 in
     let deep = depth_at rank s.cost labels tree c.args.number some in
     better m s st c.args.stand.number c.args.number (rank c.in-Some.cost) c.requires.laid c.requires.starts
-    (sym (c.is-blocked.ensures rank) ∙ c.if-is-blocked.false)
+    (sym (c.is_blocked.ensures rank) ∙ c.if-is_blocked.false)
     (ap (λ (a : ℕ). open_turn s.plan a c.args.number) (sym c.requires.stands.after) ∙ c.in-Some.ensures.0)
     (settled_at rank s.cost labels tree c.args.number some ∙ sym c.has.ensures ∙ c.if-has.false)
-    e (sym c.is-dear.ensures ∙ c.if-is-dear.false)
+    e (sym c.is_dear.ensures ∙ c.if-is_dear.false)
     (λ h. elim c.else-tree-at-gt0.branch [
       | else-tree-at-gt0-via-then-tree-at-gt0+else-not-is-cheaper w ↦
           (let known = label_at rank s.cost labels tree c.args.number w.index-labels-at.result some (omega (arith, links_few c.args.quest.now.network.now, c.requires.laid.1)) w.index-labels-at.is in
-          omega (arith, known, ltb-true _ _ (sym w.if-not-is-cheaper.ensures)))
+          omega (arith, known, ltb-true _ _ (sym w.if-not-is_cheaper.ensures)))
       | else-tree-at-gt0-via-else-tree-at-gt0 w ↦ absurd (omega (arith, deep, h, w.if-tree-at-gt0.false))
     ])

@@ -24,4 +24,4 @@ returns-in-Some c =
     let front = c.args.front.now in
     let listed = flat_map after_blank c.args.links.now in
     written_whole (front ++ (listed ++ (10 ∷ []))) c.args.buffer.now _ _
-    (put_next c.put-word-at.ensures (put_next c.put-links-end.ensures c.put-word.ensures))
+    (put_next c.put_word-at.ensures (put_next c.put_links-end.ensures c.put_word.ensures))

@@ -9,15 +9,15 @@ pub returns-then-end-limit : goal.returns-then-end-limit
 returns-then-end-limit c =
     let links = c.args.links.now in
     let i = c.loop-link.link-index in
-    let digits = c.write-decimal.ensures.count ∙ ap (λ n. length (decimal n)) c.from.ensures in
+    let digits = c.write_decimal.ensures.count ∙ ap (λ n. length (decimal n)) c.from.ensures in
     omega (arith, length_listed_more links i (omega arith), length_listed_le links (i + 1), c.loop-link.invariant.0, digits)
 
 pub loop-link-preserved : goal.loop-link-preserved
 loop-link-preserved c =
     let links = c.args.links.now in
     let i = c.loop-link.link-index in
-    let digits = c.write-decimal.ensures.count ∙ ap (λ n. length (decimal n)) c.from.ensures in
-    (omega (arith, length_listed_more links i (omega arith), c.loop-link.invariant.0, digits), omega arith, c.write-decimal.array_long)
+    let digits = c.write_decimal.ensures.count ∙ ap (λ n. length (decimal n)) c.from.ensures in
+    (omega (arith, length_listed_more links i (omega arith), c.loop-link.invariant.0, digits), omega arith, c.write_decimal.array_long)
 
 pub returns : goal.returns
 returns c =

@@ -10,8 +10,8 @@ use Rattle.console.proofs.writing.put_links.Goals as goal
 pub loop-link-init : goal.loop-link-init
 loop-link-init c = put_none c.args.buffer.now c.args.from (omega arith)
 
-pub put-number-at-requires : goal.put-number-at-requires
-put-number-at-requires c =
+pub put_number-at-requires : goal.put_number-at-requires
+put_number-at-requires c =
     let links = c.args.links.now in
     let i = c.loop-link.link-index in
     let digits = ap (λ n. length (decimal n)) c.from.ensures in
@@ -22,7 +22,7 @@ loop-link-preserved c =
     let links = c.args.links.now in
     let i = c.loop-link.link-index in
     let more = ap (λ n. flat_map after_blank (take i links) ++ after_blank n) c.from.ensures ∙ listed_more links i (omega arith) in
-    put_same more (put_next c.loop-link.invariant c.put-number-at.ensures)
+    put_same more (put_next c.loop-link.invariant c.put_number-at.ensures)
 
 pub returns : goal.returns
 returns c = put_same (ap (flat_map after_blank) (take_all c.loop-link.link-index c.args.links.now (omega arith))) c.loop-link.invariant

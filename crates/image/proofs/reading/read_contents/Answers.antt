@@ -7,12 +7,12 @@ use Rattle.image.proofs.reading.read_contents.Goals as goal
 pub returns-then-bodies-links : goal.returns-then-bodies-links
 returns-then-bodies-links c =
     let bs = c.args.bytes.now in
-    let rest = c.in-ok-first.rest.now in
-    let bodies = c.in-ok-second.bodies.now in
-    let first : ContentsEntry = c.in-ok-first.first in
-    let second : ContentsEntry = c.in-ok-second.second in
-    let a = c.in-ok-first.ensures in
-    let b = c.in-ok-second.ensures in
+    let rest = c.in_ok-first.rest.now in
+    let bodies = c.in_ok-second.bodies.now in
+    let first : ContentsEntry = c.in_ok-first.first in
+    let second : ContentsEntry = c.in_ok-second.second in
+    let a = c.in_ok-first.ensures in
+    let b = c.in_ok-second.ensures in
     let are = contents_are bs rest bodies first second a b in
     let placed = ap (λ (x : ℕ). 16 + 9 * x) c.from.ensures in (
       contents_pass bs rest bodies first second _ a b placed c.if-bodies-links.true
@@ -26,12 +26,12 @@ returns-then-bodies-links c =
 pub returns-else-is : goal.returns-else-is
 returns-else-is c =
     let bs = c.args.bytes.now in
-    let rest = c.in-ok-first.rest.now in
-    let bodies = c.in-ok-second.bodies.now in
-    let first : ContentsEntry = c.in-ok-first.first in
-    let second : ContentsEntry = c.in-ok-second.second in
-    let a = c.in-ok-first.ensures in
-    let b = c.in-ok-second.ensures in
+    let rest = c.in_ok-first.rest.now in
+    let bodies = c.in_ok-second.bodies.now in
+    let first : ContentsEntry = c.in_ok-first.first in
+    let second : ContentsEntry = c.in_ok-second.second in
+    let a = c.in_ok-first.ensures in
+    let b = c.in_ok-second.ensures in
     let placed = ap (λ (x : ℕ). 16 + 9 * x) c.from.ensures in
     elim c.else-is.branch [
       | else-is-via-then-is+then-is-2+else-bodies-links w ↦ length_wrong bs rest bodies first second _ a b placed w.if-bodies-links.false

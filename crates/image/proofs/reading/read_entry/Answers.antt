@@ -5,4 +5,4 @@ use Rattle.image.proofs.reading.read_entry.Goals as goal
 pub returns : goal.returns
 returns c =
     let long : 8 ≤ length c.args.bytes.now = omega (arith, ltb-false) in
-    (long, refl, refl, c.from-be-bytes.ensures, c.from-be-bytes-2.ensures, take_rest c.args.bytes.now 8, λ k h. search rules)
+    (long, refl, refl, c.from_be_bytes.ensures, c.from_be_bytes-2.ensures, take_rest c.args.bytes.now 8, λ k h. search rules)

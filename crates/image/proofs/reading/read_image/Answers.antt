@@ -7,31 +7,31 @@ use Rattle.image.proofs.ReadBack.{contents_back}
 use Rattle.image.proofs.Answering.{contents_refused, image_read, image_refused, bodies_are}
 use Rattle.image.proofs.reading.read_image.Goals as goal
 
-pub returns-in-default : goal.returns-in-default
-returns-in-default c = contents_refused c.args.bytes.now (drafted c.args.draft.now) c.in-default.ensures
+pub returns-in_default : goal.returns-in_default
+returns-in_default c = contents_refused c.args.bytes.now (drafted c.args.draft.now) c.in_default.ensures
 
-pub lay-records-requires : goal.lay-records-requires
-lay-records-requires c =
+pub lay_records-requires : goal.lay_records-requires
+lay_records-requires c =
     let bs = c.args.bytes.now in
     let s = c.in-Some.ensures in
     let long = (contents_back bs s.4 s.0).0 in
     ap length s.3 ∙ length-drop 16 bs ∙ omega (arith, s.1, s.2)
 
-pub returns-in-err-draft : goal.returns-in-err-draft
-returns-in-err-draft c =
+pub returns-in_err-draft : goal.returns-in_err-draft
+returns-in_err-draft c =
     let bs = c.args.bytes.now in
     let before = drafted c.args.draft.now in
     let s = c.in-Some.ensures in
-    let p = err_from_is_err_and c.from-residual.result c.from-residual.ensures.1 in
-    let is : c.from-residual.result ≡ Err c.in-err-draft.field-0.0 = p.1 ∙ ap Err p.2 in
+    let p = err_from_is_err_and c.from_residual.result c.from_residual.ensures.1 in
+    let is : c.from_residual.result ≡ Err c.in_err-draft.field-0.0 = p.1 ∙ ap Err p.2 in
     subst (λ (r : Result (Unit {0}) ReadFault). Reads bs before r before) (sym is)
-    (image_refused bs before s.0 c.in-err-draft.field-0.0
-    (c.in-err-draft.ensures ∙ bodies_are bs before c.in-Some.links c.in-Some.turns c.in-Some.bodies.now s.1 s.2 s.3))
+    (image_refused bs before s.0 c.in_err-draft.field-0.0
+    (c.in_err-draft.ensures ∙ bodies_are bs before c.in-Some.links c.in-Some.turns c.in-Some.bodies.now s.1 s.2 s.3))
 
 pub returns : goal.returns
 returns c =
     let bs = c.args.bytes.now in
     let before = drafted c.args.draft.now in
     let s = c.in-Some.ensures in
-    image_read bs before s.4 s.0 c.in-ok-draft.field-0
-    (c.in-ok-draft.ensures ∙ bodies_are bs before c.in-Some.links c.in-Some.turns c.in-Some.bodies.now s.1 s.2 s.3)
+    image_read bs before s.4 s.0 c.in_ok-draft.field-0
+    (c.in_ok-draft.ensures ∙ bodies_are bs before c.in-Some.links c.in-Some.turns c.in-Some.bodies.now s.1 s.2 s.3)

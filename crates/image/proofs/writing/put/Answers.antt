@@ -9,5 +9,5 @@ returns c =
     let bytes = c.args.bytes.now in
     let buffer = c.args.buffer.now in
     let n : at + length bytes - at ≡ length bytes = omega arith in
-    ap₂ (λ (x : ℕ) (y : List ℕ). put_mid at x buffer y) n c.copy-from-slice.ensures.after
+    ap₂ (λ (x : ℕ) (y : List ℕ). put_mid at x buffer y) n c.copy_from_slice.ensures.after
     ∙ ap (λ (y : List ℕ). take at buffer ++ (bytes ++ y)) (drop-drop (length bytes) at buffer)

@@ -24,14 +24,14 @@ returns c =
     let links = c.links-links.ensures in
     let turns = c.turns-turns.ensures in
     let fits : 16 + 9 * (length p.links + length p.turns) ≤ length before = omega (arith, ap length links, ap length turns) in
-    let one : c.put-contents.new.buffer ≡ written 0 (contents (length p.links) (length p.turns)) before =
-    c.put-contents.ensures ∙ ap₂ (λ (x y : ℕ). written 0 (contents x y) before) (ap length links) (ap length turns) in
-    let two' : c.put-records.new.buffer ≡ written 16 ls (written 0 (contents (length p.links) (length p.turns)) before) =
-    c.put-records.ensures
+    let one : c.put_contents.new.buffer ≡ written 0 (contents (length p.links) (length p.turns)) before =
+    c.put_contents.ensures ∙ ap₂ (λ (x y : ℕ). written 0 (contents x y) before) (ap length links) (ap length turns) in
+    let two' : c.put_records.new.buffer ≡ written 16 ls (written 0 (contents (length p.links) (length p.turns)) before) =
+    c.put_records.ensures
     ∙ ap₂ (λ (x : List Link) (y : List ℕ). written 16 (flat_map (λ l. record_bytes (link_record l)) x) y) links one in
-    let three : c.put-records-2.new.buffer ≡ written (16 + 9 * length p.links) ts c.put-records.new.buffer =
-    c.put-records-2.ensures
-    ∙ ap₂ (λ (n : ℕ) (x : List Turn). written (16 + 9 * n) (flat_map (λ t. record_bytes (turn_record t)) x) c.put-records.new.buffer)
+    let three : c.put_records-2.new.buffer ≡ written (16 + 9 * length p.links) ts c.put_records.new.buffer =
+    c.put_records-2.ensures
+    ∙ ap₂ (λ (n : ℕ) (x : List Turn). written (16 + 9 * n) (flat_map (λ t. record_bytes (turn_record t)) x) c.put_records.new.buffer)
     (ap length links) turns in
     image_written p before (links_few net) (turns_few net) (lawful net) fits _ _ (omega (arith, ap length links, ap length turns))
     (three ∙ ap (λ (y : List ℕ). written (16 + 9 * length p.links) ts y) two' ∙ parts_written p before fits)

@@ -7,7 +7,7 @@ use Rattle.navigator.proofs.sealing.seal.Goals as goal
 
 pub returns : goal.returns
 returns g c = record {
-  town = ap₂ (λ (n : Network) (closed : List Bool). record { roads = record { plan = plan n; marks = closed }; question = Shut }) c.into-network.ensures c.new.ensures;
+  town = ap₂ (λ (n : Network) (closed : List Bool). record { roads = record { plan = plan n; marks = closed }; question = Shut }) c.into_network.ensures c.new.ensures;
   measure = refl;
   law = law _ _ refl;
 }

@@ -8,20 +8,20 @@ use Rattle.routing.proofs.Decides.{test_simple, simple_passes, all_zeros, held, 
 use Rattle.routing.proofs.places.route_in.Goals.{else-front-rest-via-then-front-rest+else-is-route, else-front-rest-via-else-front-rest}
 use Rattle.routing.proofs.places.route_in.Goals as goal
 
-pub split-at-requires : goal.split-at-requires
-split-at-requires c = omega (arith, c.front-count.ensures, prefix_len-le-length (zero_so false) c.args.places.now)
+pub split_at-requires : goal.split_at-requires
+split_at-requires c = omega (arith, c.front-count.ensures, prefix_len-le-length (zero_so false) c.args.places.now)
 
-pub returns-then-is-route : goal.returns-then-is-route
-returns-then-is-route c =
+pub returns-then-is_route : goal.returns-then-is_route
+returns-then-is_route c =
     let places = c.args.places.now in
     let n = c.front-count.result in
     let roads = lent c.args.roads in
     let within : n ≤ length places = omega (arith, c.front-count.ensures, prefix_len-le-length (zero_so false) places) in
-    let rest = c.split-at.ensures.back in
+    let rest = c.split_at.ensures.back in
     let zeros : prefix_len (zero_so true) (drop n places) ≡ length (drop n places) =
     ap (prefix_len (zero_so true)) (sym rest) ∙ sym c.front.ensures ∙ c.if-front-rest.true ∙ ap length rest in
     let passes : route_test roads c.args.from c.args.to (take n places) ≡ true =
-    ap (route_test roads c.args.from c.args.to) (sym c.split-at.ensures.front) ∙ sym c.is-route.ensures ∙ c.if-is-route.true in
+    ap (route_test roads c.args.from c.args.to) (sym c.split_at.ensures.front) ∙ sym c.is_route.ensures ∙ c.if-is_route.true in
     (test_simple roads c.args.to c.args.from (take n places) passes, holds_front places n within (all_zeros (drop n places) zeros))
 
 pub returns-else-front-rest : goal.returns-else-front-rest
@@ -31,12 +31,12 @@ returns-else-front-rest c r simple holds =
     let n = c.front-count.result in
     let h = held roads c.args.from c.args.to places r simple holds in
     let count = c.front-count.ensures in
-    let rest = c.split-at.ensures.back in
+    let rest = c.split_at.ensures.back in
     elim c.else-front-rest.branch [
       | else-front-rest-via-then-front-rest+else-is-route w ↦
-          let links : c.split-at.result.0.now ≡ r = c.split-at.ensures.front ∙ ap (λ (k : ℕ). take k places) count ∙ h.1 in
-          both_ways w.is-route.result w.if-is-route.false
-          (w.is-route.ensures ∙ ap (route_test roads c.args.from c.args.to) links ∙ simple_passes roads c.args.to c.args.from r simple)
+          let links : c.split_at.result.0.now ≡ r = c.split_at.ensures.front ∙ ap (λ (k : ℕ). take k places) count ∙ h.1 in
+          both_ways w.is_route.result w.if-is_route.false
+          (w.is_route.ensures ∙ ap (route_test roads c.args.from c.args.to) links ∙ simple_passes roads c.args.to c.args.from r simple)
       | else-front-rest-via-else-front-rest w ↦
           w.if-front-rest.false
           (c.front.ensures ∙ ap (prefix_len (zero_so true)) (rest ∙ ap (λ (k : ℕ). drop k places) count) ∙ h.2 ∙ ap length (sym (rest ∙ ap (λ (k : ℕ). drop k places) count)))

@@ -11,10 +11,10 @@ pub returns-in-48 : goal.returns-in-48
 unfolding number_of
 returns-in-48 c = search rules
 
-pub returns-in-default : goal.returns-in-default
+pub returns-in_default : goal.returns-in_default
 unfolding number_of
-returns-in-default c = search rules
+returns-in_default c = search rules
 
-pub returns-in-default-2 : goal.returns-in-default-2
+pub returns-in_default-2 : goal.returns-in_default-2
 unfolding number_of
-returns-in-default-2 c = search rules
+returns-in_default-2 c = search rules

@@ -8,31 +8,31 @@ use Rattle.text.specs.Words.{alike, pieces, words}
 use Rattle.text.proofs.Pieces.{words_past_blanks, word_past_blanks, words_from_run}
 use Rattle.text.proofs.words.first_word.Goals as goal
 
-pub split-at-requires : goal.split-at-requires
-split-at-requires c = omega (arith, prefix_len-le-length (alike true) c.args.line.now)
+pub split_at-requires : goal.split_at-requires
+split_at-requires c = omega (arith, prefix_len-le-length (alike true) c.args.line.now)
 
-pub returns-then-is-empty : goal.returns-then-is-empty
+pub returns-then-is_empty : goal.returns-then-is_empty
 unfolding words pieces
-returns-then-is-empty c =
+returns-then-is_empty c =
     let line = c.args.line.now in
-    let rest = c.split-at.result.1.now in
-    let past : rest ≡ drop (prefix_len (alike true) line) line = c.split-at.ensures.back ∙ ap (λ (n : ℕ). drop n line) c.run.ensures in
-    let none : rest ≡ [] = nil_from_length rest (eqb-true (length rest) 0 (sym c.if-is-empty.ensures)) in
+    let rest = c.split_at.result.1.now in
+    let past : rest ≡ drop (prefix_len (alike true) line) line = c.split_at.ensures.back ∙ ap (λ (n : ℕ). drop n line) c.run.ensures in
+    let none : rest ≡ [] = nil_from_length rest (eqb-true (length rest) 0 (sym c.if-is_empty.ensures)) in
     words_past_blanks line ∙ ap words (sym past ∙ none)
 
-pub split-at-requires-2 : goal.split-at-requires-2
-split-at-requires-2 c = omega (arith, prefix_len-le-length (alike false) c.split-at.result.1.now)
+pub split_at-requires-2 : goal.split_at-requires-2
+split_at-requires-2 c = omega (arith, prefix_len-le-length (alike false) c.split_at.result.1.now)
 
 pub returns : goal.returns
 returns c =
     let line = c.args.line.now in
-    let rest = c.split-at.result.1.now in
-    let past : rest ≡ drop (prefix_len (alike true) line) line = c.split-at.ensures.back ∙ ap (λ (n : ℕ). drop n line) c.run.ensures in
-    let some : 0 < length rest = omega (arith, eqb-false (length rest) 0 (sym c.if-is-empty.ensures)) in
+    let rest = c.split_at.result.1.now in
+    let past : rest ≡ drop (prefix_len (alike true) line) line = c.split_at.ensures.back ∙ ap (λ (n : ℕ). drop n line) c.run.ensures in
+    let some : 0 < length rest = omega (arith, eqb-false (length rest) 0 (sym c.if-is_empty.ensures)) in
     let long : 0 < prefix_len (alike false) rest = rw past (word_past_blanks line (rw past at some)) in
     let first = words_from_run rest long in
     let same = words_past_blanks line in
-    let word = c.split-at-2.ensures.front in
-    let after = c.split-at-2.ensures.back in
+    let word = c.split_at-2.ensures.front in
+    let after = c.split_at-2.ensures.back in
     let n = c.run-2.ensures in
-    ((cc), omega (arith, c.split-at.ensures.back_len, c.split-at-2.ensures.back_len), omega (arith, c.split-at-2.ensures.front-len))
+    ((cc), omega (arith, c.split_at.ensures.back_len, c.split_at-2.ensures.back_len), omega (arith, c.split_at-2.ensures.front-len))

@@ -6,12 +6,12 @@ use Rattle.std.proofs.lemmas.Bool.{not-true, not-false}
 use Rattle.text.specs.Words.{alike}
 use Rattle.text.proofs.words.run.Goals as goal
 
-pub returns-then-is-blank-blanks : goal.returns-then-is-blank-blanks
-returns-then-is-blank-blanks c =
+pub returns-then-is_blank-blanks : goal.returns-then-is_blank-blanks
+returns-then-is_blank-blanks c =
     let line = c.args.line.now in
     let i = c.loop-i.i in
     let blanks = c.args.blanks in
-    let here : alike blanks (get_or line i 0) ≡ false = ap (λ (b : Bool). beq b blanks) (sym c.is-blank.ensures) ∙ not-true _ c.if-is-blank-blanks.true in
+    let here : alike blanks (get_or line i 0) ≡ false = ap (λ (b : Bool). beq b blanks) (sym c.is_blank.ensures) ∙ not-true _ c.if-is_blank-blanks.true in
     omega (arith, prefix_len-drop_no (alike blanks) line i 0 c.loop-i-test.true here, c.loop-i.invariant)
 
 pub loop-i-preserved : goal.loop-i-preserved
@@ -19,7 +19,7 @@ loop-i-preserved c =
     let line = c.args.line.now in
     let i = c.loop-i.i in
     let blanks = c.args.blanks in
-    let here : alike blanks (get_or line i 0) ≡ true = ap (λ (b : Bool). beq b blanks) (sym c.is-blank.ensures) ∙ not-false _ c.if-is-blank-blanks.false in
+    let here : alike blanks (get_or line i 0) ≡ true = ap (λ (b : Bool). beq b blanks) (sym c.is_blank.ensures) ∙ not-false _ c.if-is_blank-blanks.false in
     omega (arith, prefix_len-drop_yes (alike blanks) line i 0 c.loop-i-test.true here, c.loop-i.invariant)
 
 pub returns : goal.returns

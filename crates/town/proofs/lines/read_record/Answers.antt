@@ -7,13 +7,13 @@ use Rattle.town.proofs.lines.read_record.Goals as goal
 pub returns-then-eq : goal.returns-then-eq
 returns-then-eq c =
     let link = same_from_matches c.args.keyword.now (codes "link") c.eq.ensures c.if-eq.true in
-    c.read-link.ensures ∙ sym (cond-true _ _ _ link)
+    c.read_link.ensures ∙ sym (cond-true _ _ _ link)
 
 pub returns-then-eq-2 : goal.returns-then-eq-2
 returns-then-eq-2 c =
     let link = same_from_matches c.args.keyword.now (codes "link") c.eq.ensures c.if-eq.false in
     let turn = same_from_matches c.args.keyword.now (codes "turn") c.eq-else-eq.ensures c.if-eq-2.true in
-    c.read-turn.ensures ∙ sym (cond-false _ _ _ link ∙ cond-true _ _ _ turn)
+    c.read_turn.ensures ∙ sym (cond-false _ _ _ link ∙ cond-true _ _ _ turn)
 
 pub returns-else-eq-2 : goal.returns-else-eq-2
 returns-else-eq-2 c =

@@ -21,8 +21,8 @@ loop-first-preserved c =
     let plan = drafted c.loop-first.draft in
     let n = c.loop-first.line + 1 in
     let rest = lines c.in-Some.rest.now in (
-      ap (λ (p : Plan). lay_from p (n + 1) rest) c.lay-line.ensures.after
-          ∙ on_from_first plan n c.in-Some.first.now rest c.in-default-lay-line.ensures.answer
+      ap (λ (p : Plan). lay_from p (n + 1) rest) c.lay_line.ensures.after
+          ∙ on_from_first plan n c.in-Some.first.now rest c.in_default-lay_line.ensures.answer
           ∙ ap (lay_from plan n) (sym c.in-Some.ensures.0)
           ∙ c.loop-first.invariant.0,
       omega (arith, c.in-Some.ensures.1),
@@ -30,5 +30,5 @@ loop-first-preserved c =
 
 pub returns : goal.returns
 returns c =
-    laid_at_end (drafted c.loop-first.draft) (c.loop-first.line + 1) c.loop-first.left.now c.in-default.ensures
+    laid_at_end (drafted c.loop-first.draft) (c.loop-first.line + 1) c.loop-first.left.now c.in_default.ensures
     ∙ c.loop-first.invariant.0

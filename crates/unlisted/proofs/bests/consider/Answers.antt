@@ -8,8 +8,8 @@ use Rattle.unlisted.proofs.Improving.{begins_passable, itself_none, itself_bette
 use Rattle.unlisted.proofs.bests.consider.Goals.{then-taken-via-then-taken, then-taken-via-else-taken+then-not-ends-at, then-taken-via-else-taken+else-not-ends-at+then-not-is-better}
 use Rattle.unlisted.proofs.bests.consider.Goals as goal
 
-pub ends-at-requires : goal.ends-at-requires
-ends-at-requires g c = begins_passable (lent c.args.trip.roads) c.args.trip.from c.args.links.now c.requires.begins
+pub ends_at-requires : goal.ends_at-requires
+ends_at-requires g c = begins_passable (lent c.args.trip.roads) c.args.trip.from c.args.links.now c.requires.begins
 
 pub returns-then-taken : goal.returns-then-taken
 returns-then-taken g c =
@@ -20,14 +20,14 @@ returns-then-taken g c =
     itself_none rank m roads c.args.trip.from c.args.trip.to p c.args.best c.args.line.now c.args.taken
     (elim c.then-taken.branch [
       | then-taken-via-then-taken w ↦ inl w.if-taken.true
-      | then-taken-via-else-taken+then-not-ends-at w ↦ inr (inl (sym w.ends-at.ensures ∙ w.if-not-ends-at.true))
+      | then-taken-via-else-taken+then-not-ends-at w ↦ inr (inl (sym w.ends_at.ensures ∙ w.if-not-ends_at.true))
       | then-taken-via-else-taken+else-not-ends-at+then-not-is-better w ↦
-          inr (inr (ap (too_dear (price rank c.args.best)) (sym c.requires.priced) ∙ not-false _ (sym w.is-better.ensures ∙ w.if-not-is-better.true)))
+          inr (inr (ap (too_dear (price rank c.args.best)) (sym c.requires.priced) ∙ not-false _ (sym w.is_better.ensures ∙ w.if-not-is_better.true)))
     ])
 
 pub returns : goal.returns
 returns g c =
     itself_better g.M.Measure.rank (g.M.Measure.ranks c.args.measure.now) (lent c.args.trip.roads) c.args.trip.from c.args.trip.to c.args.links.now c.args.best c.args.line.now
-    c.args.taken (record { cost = c.args.total; count = _ }) c.write-line.new.line c.requires.begins
-    (sym c.ends-at.ensures ∙ c.if-not-ends-at.false) c.if-taken.false
-    (not-true _ (sym c.is-better.ensures ∙ c.if-not-is-better.false)) c.requires.priced refl c.write-line.ensures
+    c.args.taken (record { cost = c.args.total; count = _ }) c.write_line.new.line c.requires.begins
+    (sym c.ends_at.ensures ∙ c.if-not-ends_at.false) c.if-taken.false
+    (not-true _ (sym c.is_better.ensures ∙ c.if-not-is_better.false)) c.requires.priced refl c.write_line.ensures

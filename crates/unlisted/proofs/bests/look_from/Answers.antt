@@ -17,7 +17,7 @@ returns-in-Some g c =
     let line = c.consider-best.new.line in
     improves_both rank m roads (Itself roads trip.from trip.to p c.args.taken) (Completion roads trip.from trip.to p forbidden)
     c.args.best best (Some c.in-Some.found) c.args.line.now line c.complete.new.line c.consider-best.ensures
-    (completion_better rank m roads trip.from trip.to p best line forbidden c.bound-of.result c.in-Some.found c.complete.new.line c.bound-of.ensures c.in-Some.ensures)
+    (completion_better rank m roads trip.from trip.to p best line forbidden c.bound_of.result c.in-Some.found c.complete.new.line c.bound_of.ensures c.in-Some.ensures)
 
 pub returns-in-None : goal.returns-in-None
 returns-in-None g c =
@@ -32,4 +32,4 @@ returns-in-None g c =
     let none = c.in-None.ensures in
     improves_both rank m roads (Itself roads trip.from trip.to p c.args.taken) (Completion roads trip.from trip.to p forbidden)
     c.args.best best best c.args.line.now line c.complete.new.line c.consider-best.ensures
-    (completion_none rank m roads trip.from trip.to p best line forbidden c.bound-of.result c.complete.new.line c.bound-of.ensures none.0 none.1)
+    (completion_none rank m roads trip.from trip.to p best line forbidden c.bound_of.result c.complete.new.line c.bound_of.ensures none.0 none.1)

@@ -14,7 +14,7 @@ returns-then-listing-eq0 g c =
     let roads = lent listing.trip.roads in
     finds_as g.M.Measure.rank (g.M.Measure.ranks c.args.measure.now) roads
     (Simple roads listing.trip.from listing.trip.to) (Unlisted roads listing.trip.from listing.trip.to listing.book.now listing.listed)
-    (λ w s. (s, λ i h _. omega (arith, c.if-listing-eq0.true))) (λ w u. u.0) c.cheapest-route.new.line c.cheapest-route.result c.cheapest-route.ensures
+    (λ w s. (s, λ i h _. omega (arith, c.if-listing-eq0.true))) (λ w u. u.0) c.cheapest_route.new.line c.cheapest_route.result c.cheapest_route.ensures
 
 pub returns-else-listing-eq0 : goal.returns-else-listing-eq0
 returns-else-listing-eq0 g c =
@@ -23,4 +23,4 @@ returns-else-listing-eq0 g c =
     finds_as g.M.Measure.rank (g.M.Measure.ranks c.args.measure.now) roads
     (Left (question listing) listing.listed) (Unlisted roads listing.trip.from listing.trip.to listing.book.now listing.listed)
     (left_unlisted listing c.requires.sound) (unlisted_left listing c.requires.sound (omega (arith, c.if-listing-eq0.false)))
-    c.look-along-all.new.line c.look-along-all.result c.look-along-all.ensures
+    c.look_along_all.new.line c.look_along_all.result c.look_along_all.ensures

@@ -7,8 +7,8 @@ use Rattle.unlisted.proofs.forks.new_from.Goals as goal
 pub loop-i-init : goal.loop-i-init
 loop-i-init c = new_none c.args.fronts.now
 
-pub overflow-add-low : goal.overflow-add-low
-overflow-add-low c = omega (arith, c.requires.short c.loop-i.i)
+pub overflow_add-low : goal.overflow_add-low
+overflow_add-low c = omega (arith, c.requires.short c.loop-i.i)
 
 pub loop-i-preserved : goal.loop-i-preserved
 loop-i-preserved c =

@@ -11,8 +11,8 @@ use Rattle.unlisted.proofs.Candidates.{candidate_left, left_candidate}
 use Rattle.unlisted.proofs.Improving.{improves_as}
 use Rattle.unlisted.proofs.search.look_after.Goals as goal
 
-pub look-from-requires : goal.look-from-requires
-look-from-requires g c =
+pub look_from-requires : goal.look_from-requires
+look_from-requires g c =
     let listing = c.args.listing in
     let r = c.args.along.links.now in
     let k = c.args.count in
@@ -20,7 +20,7 @@ look-from-requires g c =
     let short = carried_short listing.book.now c.args.along.number r ready.links in record {
       room = (c.requires.room.0, (c.requires.room.1, omega (arith, length-take-le k r c.requires.count)));
       begins = front_begins (lent listing.trip.roads) listing.trip.from listing.trip.to r k (carried_simple listing c.requires.sound c.args.along.number ready.number r ready.links);
-      priced = c.price-of.ensures ∙ ready.costs.each k c.requires.count;
+      priced = c.price_of.ensures ∙ ready.costs.each k c.requires.count;
       bans = c.requires.bans;
     }
 
@@ -35,4 +35,4 @@ returns g c =
     improves_as g.M.Measure.rank (g.M.Measure.ranks c.args.measure.now) q.roads
     (Either (Itself q.roads q.from q.to (take k r) ends) (Completion q.roads q.from q.to (take k r) forbidden)) (LeftAt q r k)
     (candidate_left q few r k c.requires.count ends forbidden c.fork-fork.ensures) (left_candidate q few r k c.requires.count ends forbidden c.fork-fork.ensures)
-    c.args.best c.look-from.result c.args.line.now c.look-from.new.line c.look-from.ensures
+    c.args.best c.look_from.result c.args.line.now c.look_from.new.line c.look_from.ensures

@@ -11,8 +11,8 @@ use Rattle.unlisted.proofs.Books.{carried_simple}
 use Rattle.unlisted.proofs.Searching.{fronts_short, finds_outset, finds_step, finds_end}
 use Rattle.unlisted.proofs.search.look_along.Goals as goal
 
-pub new-from-low-requires : goal.new-from-low-requires
-new-from-low-requires g c =
+pub new_from-low-requires : goal.new_from-low-requires
+new_from-low-requires g c =
     let ready = c.requires.ready in record {
       room = omega (arith, ready.number, ready.fronts.room);
       short = λ i h. fronts_short c.args.listing c.args.along.links.now c.args.along.fronts.now ready.fronts i (omega (arith, ready.number));
@@ -21,14 +21,14 @@ new-from-low-requires g c =
 pub loop-count-init : goal.loop-count-init
 loop-count-init g c =
     let links = c.args.along.links.now in
-    let B : List ℕ → Type 0 = λ x. Bans (lent c.args.listing.trip.roads) x (marks c.banned-along-banned.result) in (
+    let B : List ℕ → Type 0 = λ x. Bans (lent c.args.listing.trip.roads) x (marks c.banned_along-banned.result) in (
       omega arith,
-      subst B (sym (take_all (length links + 1 - 1) links (omega arith))) c.banned-along-banned.ensures,
+      subst B (sym (take_all (length links + 1 - 1) links (omega arith))) c.banned_along-banned.ensures,
       finds_outset g.M.Measure.rank (g.M.Measure.ranks c.args.measure.now) (question c.args.listing) c.args.along.number links c.requires.ready.links c.args.line.now c.args.first c.requires.finds,
     )
 
-pub look-after-best-requires : goal.look-after-best-requires
-look-after-best-requires g c = record {
+pub look_after-best-requires : goal.look_after-best-requires
+look_after-best-requires g c = record {
   room = (omega (arith, c.requires.room.0), omega (arith, c.requires.room.1));
   sound = c.requires.sound;
   ready = c.requires.ready;
@@ -44,7 +44,7 @@ loop-count-preserved g c =
       omega (arith, c.loop-count.invariant.0),
       subst B (let z : n - 1 ≡ n - 1 - 1 = omega arith in z) c.loop-count.invariant.1,
       finds_step g.M.Measure.rank (g.M.Measure.ranks c.args.measure.now) (question c.args.listing) c.args.along.number links c.requires.ready.links (n - 1) n (omega arith)
-          c.loop-count.best c.look-after-best.result c.loop-count.line c.look-after-best.new.line c.loop-count.invariant.2 c.look-after-best.ensures,
+          c.loop-count.best c.look_after-best.result c.loop-count.line c.look_after-best.new.line c.loop-count.invariant.2 c.look_after-best.ensures,
     )
 
 pub loop-count-preserved-then-count-gt0 : goal.loop-count-preserved-then-count-gt0
@@ -60,11 +60,11 @@ loop-count-preserved-then-count-gt0 g c =
       omega (arith, c.loop-count.invariant.0),
       subst B (ap (λ (x : ℕ). marked ms x false) (sym c.from.ensures) ∙ sym c.remove.ensures) back,
       finds_step g.M.Measure.rank (g.M.Measure.ranks c.args.measure.now) (question listing) c.args.along.number links c.requires.ready.links (n - 1) n (omega arith)
-          c.loop-count.best c.look-after-best.result c.loop-count.line c.look-after-best.new.line c.loop-count.invariant.2 c.look-after-best.ensures,
+          c.loop-count.best c.look_after-best.result c.loop-count.line c.look_after-best.new.line c.loop-count.invariant.2 c.look_after-best.ensures,
     )
 
 pub returns : goal.returns
 returns g c =
     finds_end g.M.Measure.rank (g.M.Measure.ranks c.args.measure.now) (question c.args.listing) c.args.along.number c.args.along.links.now c.requires.ready.links
-    c.args.along.fronts.now c.new-from-low.result c.loop-count.count c.requires.ready.number c.requires.ready.fronts c.new-from-low.ensures c.loop-count-test.false
+    c.args.along.fronts.now c.new_from-low.result c.loop-count.count c.requires.ready.number c.requires.ready.fronts c.new_from-low.ensures c.loop-count-test.false
     c.loop-count.line c.loop-count.best c.loop-count.invariant.2

@@ -14,8 +14,8 @@ use Rattle.unlisted.proofs.search.look_along_all.Goals as goal
 pub loop-number-init : goal.loop-number-init
 loop-number-init g c = λ w l. absurd (omega (arith, l.2))
 
-pub price-along-requires : goal.price-along-requires
-price-along-requires g c =
+pub price_along-requires : goal.price_along-requires
+price_along-requires g c =
     let listing = c.args.listing in
     let links = c.links-links.result.now in
     let simple = carried_simple listing c.requires.sound c.loop-number.number c.loop-number-test.true links c.links-links.ensures in
@@ -24,8 +24,8 @@ price-along-requires g c =
       laid = All-weaker (Passable (lent listing.trip.roads)) (Laid (plan listing.trip.roads.network.now).links) (λ a p. p.0) links (simple_passable (lent listing.trip.roads) listing.trip.from listing.trip.to links simple);
     }
 
-pub look-along-best-requires : goal.look-along-best-requires
-look-along-best-requires g c =
+pub look_along-best-requires : goal.look_along-best-requires
+look_along-best-requires g c =
     let q = question c.args.listing in
     let F : List ℕ → Type 0 = λ x. Fronts q x c.fronts-fronts.result in record {
       room = (omega (arith, c.requires.room.0), omega (arith, c.requires.room.1.1));
@@ -34,7 +34,7 @@ look-along-best-requires g c =
         number = c.loop-number-test.true;
         links = c.links-links.ensures;
         fronts = subst F (sym c.links-links.ensures) c.fronts-fronts.ensures;
-        costs = c.price-along.ensures;
+        costs = c.price_along.ensures;
       };
       finds = c.loop-number.invariant;
     }

@@ -3,6 +3,6 @@ use Rattle.frontier.proofs.frontier.Frontier.insert.Goals as goal
 
 pub returns : goal.returns
 returns g c = record {
-  sound = c.set-leaf.ensures.sound;
-  waiting = put_in c.args.self.now _ c.args.link c.requires.link.0 c.set-leaf.ensures.here c.set-leaf.ensures.others;
+  sound = c.set_leaf.ensures.sound;
+  waiting = put_in c.args.self.now _ c.args.link c.requires.link.0 c.set_leaf.ensures.here c.set_leaf.ensures.others;
 }

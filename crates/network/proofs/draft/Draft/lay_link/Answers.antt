@@ -6,13 +6,13 @@ use Rattle.network.specs.Plan.{last_start, LinkWithin}
 use Rattle.network.proofs.Laws.{inside, lawful, lawful_add_link}
 use Rattle.network.proofs.draft.Draft.lay_link.Goals as goal
 
-pub invariant-of-self : goal.invariant-of-self
-invariant-of-self c =
+pub invariant_of-self : goal.invariant_of-self
+invariant_of-self c =
     let before = drafted c.args.self.now in
     let l : Link = record { start = c.args.start; end = c.args.end; length = c.args.length; tightness = c.args.tightness } in
     let within : LinkWithin l = (
-      inside c.args.start (not-true _ (sym c.is-node.ensures ∙ c.if-not-is-node.false)),
-      inside c.args.end (not-true _ (sym c.is-node-else-not-is-node.ensures ∙ c.if-not-is-node-2.false)),
+      inside c.args.start (not-true _ (sym c.is_node.ensures ∙ c.if-not-is_node.false)),
+      inside c.args.end (not-true _ (sym c.is_node-else-not-is_node.ensures ∙ c.if-not-is_node-2.false)),
       omega arith,
       omega arith,
     ) in

@@ -7,30 +7,30 @@ use Rattle.network.proofs.Rows.{handed_on, stays}
 use Rattle.network.proofs.Laws.{lawful, lawful_add_turn, pair_meets, extra_within, class_within, refused_by_pair, refused_by_letter}
 use Rattle.network.proofs.draft.Draft.lay_turn.Goals as goal
 
-pub returns-in-err-check-pair : goal.returns-in-err-check-pair
-returns-in-err-check-pair c =
+pub returns-in_err-check_pair : goal.returns-in_err-check_pair
+returns-in_err-check_pair c =
     let before = drafted c.args.self.now in
-    let p = err_from_is_err_and c.from-residual.result c.from-residual.ensures.1 in
-    let told = refused_by_pair before c.args.into c.args.out c.args.letter c.args.extra _ (sym c.in-err-check-pair.ensures) in
+    let p = err_from_is_err_and c.from_residual.result c.from_residual.ensures.1 in
+    let told = refused_by_pair before c.args.into c.args.out c.args.letter c.args.extra _ (sym c.in_err-check_pair.ensures) in
     record { answer = handed_on _ _ _ _ p.1 p.2 told; after = stays _ _ before _ told }
 
-pub returns-in-err-class : goal.returns-in-err-class
-returns-in-err-class c =
+pub returns-in_err-class : goal.returns-in_err-class
+returns-in_err-class c =
     let before = drafted c.args.self.now in
-    let p = err_from_is_err_and c.from-residual-in-err-class.result c.from-residual-in-err-class.ensures.1 in
+    let p = err_from_is_err_and c.from_residual-in_err-class.result c.from_residual-in_err-class.ensures.1 in
     let told = refused_by_letter before c.args.into c.args.out c.args.letter c.args.extra _
-    (sym c.in-ok-check-pair.ensures) (sym c.has_entry.ensures ∙ c.if-has-entry.false)
-    (sym c.in-err-class.ensures.answer) in
+    (sym c.in_ok-check_pair.ensures) (sym c.has_entry.ensures ∙ c.if-has_entry.false)
+    (sym c.in_err-class.ensures.answer) in
     record { answer = handed_on _ _ _ _ p.1 p.2 told; after = stays _ _ before _ told }
 
-pub invariant-of-self : goal.invariant-of-self
-invariant-of-self c =
+pub invariant_of-self : goal.invariant_of-self
+invariant_of-self c =
     let before = drafted c.args.self.now in
-    let t : Turn = record { into = c.args.into; out = c.args.out; class = c.in-ok-class.class; extra = c.args.extra } in
-    let meets : Meets before.links t = pair_meets before c.args.into c.args.out (sym c.in-ok-check-pair.ensures) in
+    let t : Turn = record { into = c.args.into; out = c.args.out; class = c.in_ok-class.class; extra = c.args.extra } in
+    let meets : Meets before.links t = pair_meets before c.args.into c.args.out (sym c.in_ok-check_pair.ensures) in
     let within : EntryWithin t = (
-      class_within c.args.letter c.in-ok-class.class c.in-ok-class.ensures.class,
-      extra_within c.args.letter c.args.extra (sym c.in-ok-class.ensures.answer),
+      class_within c.args.letter c.in_ok-class.class c.in_ok-class.ensures.class,
+      extra_within c.args.letter c.args.extra (sym c.in_ok-class.ensures.answer),
     ) in
     lawful_add_turn before _ t c.push.ensures (lawful c.args.self.now.network) within meets
-    (sym c.has_entry.ensures ∙ c.if-has-entry.false)
+    (sym c.has_entry.ensures ∙ c.if-has_entry.false)

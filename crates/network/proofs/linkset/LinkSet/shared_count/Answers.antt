@@ -13,8 +13,8 @@ pub loop-i-init : goal.loop-i-init
 unfolding both
 loop-i-init c = (refl, omega arith)
 
-pub overflow-add-count : goal.overflow-add-count
-overflow-add-count c =
+pub overflow_add-count : goal.overflow_add-count
+overflow_add-count c =
     let x = get_or c.args.a.now.words c.loop-i.i 0 in
     let y = get_or c.args.b.now.words c.loop-i.i 0 in
     omega (arith, few x y (omega arith))

@@ -16,9 +16,9 @@ checked links node count rise within low high = record {
   others = λ i h l. let up = starts_rise_to links rise count i h l in let first = high (omega arith) in omega arith;
 }
 
-pub returns-then-goes-on-at : goal.returns-then-goes-on-at
-returns-then-goes-on-at c =
-    let links = c.as-slice-links.result.now in
-    let rise : StartsRise links = subst (λ (x : List Link). StartsRise x) (sym c.as-slice-links.ensures) c.args.self.now.rising in
-    subst (λ (x : List Link). LinksBelow x c.args.node c.below-count.result) c.as-slice-links.ensures
-    (checked links c.args.node c.below-count.result rise c.if-count-links.true (c.ends-below.ensures c.if-ends-below.true) (c.goes-on-at.ensures c.if-goes-on-at.true))
+pub returns-then-goes_on_at : goal.returns-then-goes_on_at
+returns-then-goes_on_at c =
+    let links = c.as_slice-links.result.now in
+    let rise : StartsRise links = subst (λ (x : List Link). StartsRise x) (sym c.as_slice-links.ensures) c.args.self.now.rising in
+    subst (λ (x : List Link). LinksBelow x c.args.node c.below-count.result) c.as_slice-links.ensures
+    (checked links c.args.node c.below-count.result rise c.if-count-links.true (c.ends_below.ensures c.if-ends_below.true) (c.goes_on_at.ensures c.if-goes_on_at.true))

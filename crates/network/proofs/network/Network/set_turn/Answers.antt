@@ -11,28 +11,28 @@ use Rattle.network.proofs.Laws.{lawful, lawful_add_turn, pair_meets, extra_withi
 use Rattle.network.proofs.Changes.{changed_adds, changed_here, lawful_changed, change_refused_by_pair, change_refused_by_letter, change_by_room, change_made}
 use Rattle.network.proofs.network.Network.set_turn.Goals as goal
 
-pub returns-in-err-check-pair : goal.returns-in-err-check-pair
-returns-in-err-check-pair c =
+pub returns-in_err-check_pair : goal.returns-in_err-check_pair
+returns-in_err-check_pair c =
     let before = plan c.args.self.now in
-    let p = err_from_is_err_and c.from-residual.result c.from-residual.ensures.1 in
-    let told = change_refused_by_pair before c.args.into c.args.out c.args.letter c.args.extra _ (sym c.in-err-check-pair.ensures) in
+    let p = err_from_is_err_and c.from_residual.result c.from_residual.ensures.1 in
+    let told = change_refused_by_pair before c.args.into c.args.out c.args.letter c.args.extra _ (sym c.in_err-check_pair.ensures) in
     record { answer = handed_on _ _ _ _ p.1 p.2 told; after = stays _ _ before _ told }
 
-pub returns-in-err-class : goal.returns-in-err-class
-returns-in-err-class c =
+pub returns-in_err-class : goal.returns-in_err-class
+returns-in_err-class c =
     let before = plan c.args.self.now in
-    let p = err_from_is_err_and c.from-residual-in-err-class.result c.from-residual-in-err-class.ensures.1 in
+    let p = err_from_is_err_and c.from_residual-in_err-class.result c.from_residual-in_err-class.ensures.1 in
     let told = change_refused_by_letter before c.args.into c.args.out c.args.letter c.args.extra _
-    (sym c.in-ok-check-pair.ensures) (sym c.in-err-class.ensures.answer) in
+    (sym c.in_ok-check_pair.ensures) (sym c.in_err-class.ensures.answer) in
     record { answer = handed_on _ _ _ _ p.1 p.2 told; after = stays _ _ before _ told }
 
-pub invariant-of-self : goal.invariant-of-self
-invariant-of-self c =
+pub invariant_of-self : goal.invariant_of-self
+invariant_of-self c =
     let before = plan c.args.self.now in
     let found = c.in-Some.ensures in
-    lawful_changed before _ c.in-Some.place c.in-ok-class.class c.args.extra c.change-at.ensures found.0
-    (class_within c.args.letter c.in-ok-class.class c.in-ok-class.ensures.class)
-    (extra_within c.args.letter c.args.extra (sym c.in-ok-class.ensures.answer)) (lawful c.args.self.now)
+    lawful_changed before _ c.in-Some.place c.in_ok-class.class c.args.extra c.change_at.ensures found.0
+    (class_within c.args.letter c.in_ok-class.class c.in_ok-class.ensures.class)
+    (extra_within c.args.letter c.args.extra (sym c.in_ok-class.ensures.answer)) (lawful c.args.self.now)
 
 pub returns-in-Some : goal.returns-in-Some
 returns-in-Some c =
@@ -42,38 +42,38 @@ returns-in-Some c =
     let found = c.in-Some.ensures in
     let has : has_entry before.turns into out ≡ true = one_has_entry before.turns into out c.in-Some.place found.0 found.1 in
     let passed : set_turn_refusal before into out c.args.letter c.args.extra ≡ None =
-    change_by_room before into out c.args.letter c.args.extra (sym c.in-ok-check-pair.ensures) (sym c.in-ok-class.ensures.answer)
+    change_by_room before into out c.args.letter c.args.extra (sym c.in_ok-check_pair.ensures) (sym c.in_ok-class.ensures.answer)
     ∙ ap (λ (b : Bool). cond (not b && eqb (length before.turns) 2048) (Some 5) None) has in
     record {
       answer = sym passed;
-      after = change_made before into out c.args.letter c.args.extra c.in-ok-class.class _ passed c.in-ok-class.ensures.class
-          (c.change-at.ensures ∙ sym (changed_here before.turns into out c.in-Some.place c.in-ok-class.class c.args.extra found.0 found.2 found.1));
+      after = change_made before into out c.args.letter c.args.extra c.in_ok-class.class _ passed c.in_ok-class.ensures.class
+          (c.change_at.ensures ∙ sym (changed_here before.turns into out c.in-Some.place c.in_ok-class.class c.args.extra found.0 found.2 found.1));
     }
 
-pub invariant-of-self-2 : goal.invariant-of-self-2
-invariant-of-self-2 c =
+pub invariant_of-self-2 : goal.invariant_of-self-2
+invariant_of-self-2 c =
     let before = plan c.args.self.now in
-    let t : Turn = record { into = c.args.into; out = c.args.out; class = c.in-ok-class.class; extra = c.args.extra } in
-    let meets : Meets before.links t = pair_meets before c.args.into c.args.out (sym c.in-ok-check-pair.ensures) in
+    let t : Turn = record { into = c.args.into; out = c.args.out; class = c.in_ok-class.class; extra = c.args.extra } in
+    let meets : Meets before.links t = pair_meets before c.args.into c.args.out (sym c.in_ok-check_pair.ensures) in
     let within : EntryWithin t = (
-      class_within c.args.letter c.in-ok-class.class c.in-ok-class.ensures.class,
-      extra_within c.args.letter c.args.extra (sym c.in-ok-class.ensures.answer),
+      class_within c.args.letter c.in_ok-class.class c.in_ok-class.ensures.class,
+      extra_within c.args.letter c.args.extra (sym c.in_ok-class.ensures.answer),
     ) in
-    lawful_add_turn before _ t c.push.ensures (lawful c.args.self.now) within meets c.in-default.ensures
+    lawful_add_turn before _ t c.push.ensures (lawful c.args.self.now) within meets c.in_default.ensures
 
 pub returns : goal.returns
 returns c =
     let before = plan c.args.self.now in
     let into = c.args.into in
     let out = c.args.out in
-    let t : Turn = record { into = into; out = out; class = c.in-ok-class.class; extra = c.args.extra } in
-    let none = c.in-default.ensures in
+    let t : Turn = record { into = into; out = out; class = c.in_ok-class.class; extra = c.args.extra } in
+    let none = c.in_default.ensures in
     let room : eqb (length before.turns) 2048 ≡ false = ne_eqb (length before.turns) 2048 (λ e. c.if-len-eq2048.false (c.len.ensures ∙ e)) in
     let passed : set_turn_refusal before into out c.args.letter c.args.extra ≡ None =
-    change_by_room before into out c.args.letter c.args.extra (sym c.in-ok-check-pair.ensures) (sym c.in-ok-class.ensures.answer)
+    change_by_room before into out c.args.letter c.args.extra (sym c.in_ok-check_pair.ensures) (sym c.in_ok-class.ensures.answer)
     ∙ ap (λ (b : Bool). cond b (Some 5) None) (and_right (not (has_entry before.turns into out)) (eqb (length before.turns) 2048) room) in
     record {
       answer = sym passed;
-      after = change_made before into out c.args.letter c.args.extra c.in-ok-class.class _ passed c.in-ok-class.ensures.class
+      after = change_made before into out c.args.letter c.args.extra c.in_ok-class.class _ passed c.in_ok-class.ensures.class
           (c.push.ensures ∙ sym (changed_adds before.turns t none));
     }

@@ -5,15 +5,15 @@ use Rattle.network.specs.Changing.{changed_at}
 use Rattle.network.proofs.Chains.{Indexed, indexed_same, same_ins}
 use Rattle.network.proofs.turntable.TurnTable.change_at.Goals as goal
 
-pub invariant-of-self : goal.invariant-of-self
-invariant-of-self c =
+pub invariant_of-self : goal.invariant_of-self
+invariant_of-self c =
     let s = c.args.self.now in
     let ts = items s.entries in
     let us = changed_at ts c.args.place c.args.class c.args.extra in (
       s.headed,
       (
         s.chained,
-        subst (λ (x : List Turn). Indexed x s.heads s.nexts) (sym c.change-at.ensures)
+        subst (λ (x : List Turn). Indexed x s.heads s.nexts) (sym c.change_at.ensures)
             (indexed_same ts us s.heads s.nexts (length-set ts c.args.place _) (same_ins ts c.args.place c.args.class c.args.extra c.requires)
             (s.head, (s.held, (s.latest, (s.back, (s.kept, (s.between, tt))))))),
       ),

@@ -3,8 +3,8 @@ use Rattle.network.specs.Tables.{items}
 use Rattle.network.proofs.Chains.{Indexed, indexed_push}
 use Rattle.network.proofs.turntable.TurnTable.push.Goals as goal
 
-pub invariant-of-self : goal.invariant-of-self
-invariant-of-self c =
+pub invariant_of-self : goal.invariant_of-self
+invariant_of-self c =
     let s = c.args.self.now in
     let ts = items s.entries in
     let t = c.args.turn in (

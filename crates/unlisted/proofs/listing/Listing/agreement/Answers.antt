@@ -12,8 +12,8 @@ returns-then-link-eq0 c =
     let k = c.loop-place.place in
     let stop : (get_or r k 0 ≡ 0) ⊎ (get_or r k 0 ≡ get_or s k 0 → ⊥) =
     elim c.then-link-eq0.branch [
-      | then-link-eq0-via-then-link-eq0 w ↦ inl (sym c.next-link-link.ensures ∙ w.if-link-eq0.true)
-      | then-link-eq0-via-else-link-eq0+then-link-next-link w ↦ inr (λ e. w.if-link-next-link.true (c.next-link-link.ensures ∙ e ∙ sym w.next-link.ensures))
+      | then-link-eq0-via-then-link-eq0 w ↦ inl (sym c.next_link-link.ensures ∙ w.if-link-eq0.true)
+      | then-link-eq0-via-else-link-eq0+then-link-next-link w ↦ inr (λ e. w.if-link-next_link.true (c.next_link-link.ensures ∙ e ∙ sym w.next_link.ensures))
     ] in
     agree_stops r s k (sound_links c.args.self c.requires.sound c.args.a c.requires.numbers.0) c.loop-place.invariant stop
 
@@ -22,8 +22,8 @@ loop-place-preserved c =
     let r = route c.args.self.book.now c.args.a in
     let s = route c.args.self.book.now c.args.b in
     agree_more r s c.loop-place.place c.loop-place.invariant
-    (λ z. c.if-link-eq0.false (c.next-link-link.ensures ∙ z))
-    (sym c.next-link-link.ensures ∙ c.if-link-next-link.false ∙ c.next-link.ensures)
+    (λ z. c.if-link-eq0.false (c.next_link-link.ensures ∙ z))
+    (sym c.next_link-link.ensures ∙ c.if-link-next_link.false ∙ c.next_link.ensures)
 
 pub returns : goal.returns
 returns c =

@@ -23,7 +23,7 @@ loop-i-preserved g c =
     elim c.if-along-i.branch [
       | then-along-i w ↦
           let long : k ≤ agree (routes i) r = omega (arith, w.if-along-i.true, front) in
-          subst P (sym w.fork-is) (taken_more routes r k fork i c.loop-i.invariant (length_nexts c.loop-i.fork) long w.next-link.result w.next-link.ensures _ w.put.ensures)
+          subst P (sym w.fork-is) (taken_more routes r k fork i c.loop-i.invariant (length_nexts c.loop-i.fork) long w.next_link.result w.next_link.ensures _ w.put.ensures)
       | else-along-i w ↦
           let short : agree (routes i) r < k = omega (arith, w.if-along-i.false, front) in
           subst P (sym w.fork-is) (taken_skip routes r k fork i c.loop-i.invariant short)
