@@ -35,4 +35,4 @@ returns c =
     let word = c.split_at-2.ensures.front in
     let after = c.split_at-2.ensures.back in
     let n = c.run-2.ensures in
-    ((cc), omega (arith, c.split_at.ensures.back_len, c.split_at-2.ensures.back_len), omega (arith, c.split_at-2.ensures.front-len))
+    ((cc), omega (arith, c.split_at.ensures.back_len, c.split_at-2.ensures.back_len), omega (arith, c.split_at-2.ensures.front_len))

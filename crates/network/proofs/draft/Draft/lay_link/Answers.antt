@@ -17,4 +17,5 @@ invariant_of-self c =
       omega arith,
     ) in
     let above : last_start before.links ≤ c.args.start = omega arith in
-    lawful_add_link before _ l c.push.ensures (lawful c.args.self.now.network) within above
+    let laws = lawful_add_link before _ l c.push.ensures (lawful c.args.self.now.network) within above in
+    record { sound = laws.0; rising = laws.1.0; marked = laws.1.1.0; meeting = laws.1.1.1.0; apart = laws.1.1.1.1.0 }

@@ -32,5 +32,6 @@ invariant_of-self c =
       class_within c.args.letter c.in_ok-class.class c.in_ok-class.ensures.class,
       extra_within c.args.letter c.args.extra (sym c.in_ok-class.ensures.answer),
     ) in
-    lawful_add_turn before _ t c.push.ensures (lawful c.args.self.now.network) within meets
-    (sym c.has_entry.ensures ∙ c.if-has_entry.false)
+    let laws = lawful_add_turn before _ t c.push.ensures (lawful c.args.self.now.network) within meets
+    (sym c.has_entry.ensures ∙ c.if-has_entry.false) in
+    record { sound = laws.0; rising = laws.1.0; marked = laws.1.1.0; meeting = laws.1.1.1.0; apart = laws.1.1.1.1.0 }

@@ -30,9 +30,10 @@ pub invariant_of-self : goal.invariant_of-self
 invariant_of-self c =
     let before = plan c.args.self.now in
     let found = c.in-Some.ensures in
-    lawful_changed before _ c.in-Some.place c.in_ok-class.class c.args.extra c.change_at.ensures found.0
+    let laws = lawful_changed before _ c.in-Some.place c.in_ok-class.class c.args.extra c.change_at.ensures found.0
     (class_within c.args.letter c.in_ok-class.class c.in_ok-class.ensures.class)
-    (extra_within c.args.letter c.args.extra (sym c.in_ok-class.ensures.answer)) (lawful c.args.self.now)
+    (extra_within c.args.letter c.args.extra (sym c.in_ok-class.ensures.answer)) (lawful c.args.self.now) in
+    record { sound = laws.0; rising = laws.1.0; marked = laws.1.1.0; meeting = laws.1.1.1.0; apart = laws.1.1.1.1.0 }
 
 pub returns-in-Some : goal.returns-in-Some
 returns-in-Some c =
@@ -59,7 +60,8 @@ invariant_of-self-2 c =
       class_within c.args.letter c.in_ok-class.class c.in_ok-class.ensures.class,
       extra_within c.args.letter c.args.extra (sym c.in_ok-class.ensures.answer),
     ) in
-    lawful_add_turn before _ t c.push.ensures (lawful c.args.self.now) within meets c.in_default.ensures
+    let laws = lawful_add_turn before _ t c.push.ensures (lawful c.args.self.now) within meets c.in_default.ensures in
+    record { sound = laws.0; rising = laws.1.0; marked = laws.1.1.0; meeting = laws.1.1.1.0; apart = laws.1.1.1.1.0 }
 
 pub returns : goal.returns
 returns c =

@@ -3,4 +3,4 @@ use lib.ListN.{length-replicate}
 use Rattle.network.proofs.table.Table.new.Goals as goal
 
 pub invariant_of-result : goal.invariant_of-result
-invariant_of-result g c = (length-replicate g.row.N c.args.filler, (omega arith, tt))
+invariant_of-result g c = record { long = length-replicate g.row.N c.args.filler; room = omega arith }
