@@ -46,6 +46,11 @@ def main():
         text = read(path)
         heads = {h for h in re.findall(r"(?m)^(?:abbrev )?pub (%s) : goal\." % word, text) if "-" in h}
         new = re.sub(r"(?<=\.)%s" % word, lambda m: label(m.group(0)), text)
+        if re.search(r"\.Goals\.\{", text):
+            lists = [w for names in re.findall(r"\.Goals\.\{([^}]*)\}", text) for w in names.split(", ")]
+            for name in lists:
+                if label(name) != name:
+                    new = re.sub(r"(?<![A-Za-z0-9_'+.-])%s(?![A-Za-z0-9_'+-])" % re.escape(name), lambda m: label(name), new)
         if heads:
             new = re.sub(r"(?m)^((?:abbrev )?(?:pub )?)(%s)" % word, lambda m: m.group(1) + (label(m.group(2)) if m.group(2) in heads else m.group(2)), new)
         if new != text:

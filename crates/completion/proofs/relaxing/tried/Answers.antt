@@ -6,8 +6,8 @@ use Rattle.completion.specs.View.{view}
 use Rattle.completion.proofs.Views.{label_at, depth_at, settled_at}
 use Rattle.completion.proofs.Tries.{fine_blocked, fine_settled, fine_barred, on_is, fine_dear, fine_known, better}
 use Rattle.completion.proofs.relaxing.tried.Goals as goal
-use Rattle.completion.proofs.relaxing.tried.Goals.{then-is-blocked-via-then-is-blocked, then-is-blocked-via-else-is-blocked+then-has}
-use Rattle.completion.proofs.relaxing.tried.Goals.{else-tree-at-gt0-via-then-tree-at-gt0+else-not-is-cheaper, else-tree-at-gt0-via-else-tree-at-gt0}
+use Rattle.completion.proofs.relaxing.tried.Goals.{then-is_blocked-via-then-is_blocked, then-is_blocked-via-else-is_blocked+then-has}
+use Rattle.completion.proofs.relaxing.tried.Goals.{else-tree-at-gt0-via-then-tree-at-gt0+else-not-is_cheaper, else-tree-at-gt0-via-else-tree-at-gt0}
 
 pub returns-then-is_blocked : goal.returns-then-is_blocked
 returns-then-is_blocked g c =
@@ -16,9 +16,9 @@ returns-then-is_blocked g c =
     let s = setting rank c.args.quest.now in
     let st = view rank s.cost c.args.labels.now c.args.tree.now in
     elim c.then-is_blocked.branch [
-      | then-is-blocked-via-then-is-blocked w ↦
+      | then-is_blocked-via-then-is_blocked w ↦
           fine_blocked m s st c.args.stand.number c.args.number (sym (c.is_blocked.ensures rank) ∙ w.if-is_blocked.true)
-      | then-is-blocked-via-else-is-blocked+then-has w ↦
+      | then-is_blocked-via-else-is_blocked+then-has w ↦
           fine_settled m s st c.args.stand.number c.args.number
           (settled_at rank s.cost c.args.labels.now c.args.tree.now c.args.number (omega (arith, c.requires.laid.0))
           ∙ sym w.has.ensures ∙ w.if-has.true)
@@ -74,7 +74,7 @@ returns g c =
     (settled_at rank s.cost labels tree c.args.number some ∙ sym c.has.ensures ∙ c.if-has.false)
     e (sym c.is_dear.ensures ∙ c.if-is_dear.false)
     (λ h. elim c.else-tree-at-gt0.branch [
-      | else-tree-at-gt0-via-then-tree-at-gt0+else-not-is-cheaper w ↦
+      | else-tree-at-gt0-via-then-tree-at-gt0+else-not-is_cheaper w ↦
           (let known = label_at rank s.cost labels tree c.args.number w.index-labels-at.result some (omega (arith, links_few c.args.quest.now.network.now, c.requires.laid.1)) w.index-labels-at.is in
           omega (arith, known, ltb-true _ _ (sym w.if-not-is_cheaper.ensures)))
       | else-tree-at-gt0-via-else-tree-at-gt0 w ↦ absurd (omega (arith, deep, h, w.if-tree-at-gt0.false))

@@ -5,7 +5,7 @@ use Rattle.std.proofs.lemmas.Bool.{both_ways}
 use Rattle.routing.specs.Route.{Simple}
 use Rattle.routing.specs.Lent.{lent, route_test, zero_so}
 use Rattle.routing.proofs.Decides.{test_simple, simple_passes, all_zeros, held, holds_front}
-use Rattle.routing.proofs.places.route_in.Goals.{else-front-rest-via-then-front-rest+else-is-route, else-front-rest-via-else-front-rest}
+use Rattle.routing.proofs.places.route_in.Goals.{else-front-rest-via-then-front-rest+else-is_route, else-front-rest-via-else-front-rest}
 use Rattle.routing.proofs.places.route_in.Goals as goal
 
 pub split_at-requires : goal.split_at-requires
@@ -33,7 +33,7 @@ returns-else-front-rest c r simple holds =
     let count = c.front-count.ensures in
     let rest = c.split_at.ensures.back in
     elim c.else-front-rest.branch [
-      | else-front-rest-via-then-front-rest+else-is-route w ↦
+      | else-front-rest-via-then-front-rest+else-is_route w ↦
           let links : c.split_at.result.0.now ≡ r = c.split_at.ensures.front ∙ ap (λ (k : ℕ). take k places) count ∙ h.1 in
           both_ways w.is_route.result w.if-is_route.false
           (w.is_route.ensures ∙ ap (route_test roads c.args.from c.args.to) links ∙ simple_passes roads c.args.to c.args.from r simple)

@@ -10,7 +10,7 @@ use Rattle.routing.specs.Enumeration.{passable, joins}
 use Rattle.routing.specs.Lent.{lent, steps_test}
 use Rattle.routing.proofs.Conditions.{passable_true}
 use Rattle.routing.proofs.Testing.{steps_end, step_passes, not_passable, seen_before, not_joined, route_by_steps, seen_is}
-use Rattle.routing.proofs.steps.is_route.Goals.{then-not-is-passable-2-via-then-not-is-passable-2, then-not-is-passable-2-via-else-not-is-passable-2+then-has, then-not-is-passable-2-via-else-not-is-passable-2+else-has+then-not-may-follow}
+use Rattle.routing.proofs.steps.is_route.Goals.{then-not-is_passable-2-via-then-not-is_passable-2, then-not-is_passable-2-via-else-not-is_passable-2+then-has, then-not-is_passable-2-via-else-not-is_passable-2+else-has+then-not-may_follow}
 use Rattle.routing.proofs.steps.is_route.Goals as goal
 
 pub loop-i-init : goal.loop-i-init
@@ -36,14 +36,14 @@ returns-then-not-is_passable-2 c =
     let low : 1 ≤ i = omega arith in
     let stops : steps_test roads c.args.to (get_or links (i - 1) 0) (take i links) (drop i links) ≡ false =
     elim c.then-not-is_passable-2.branch [
-      | then-not-is-passable-2-via-then-not-is-passable-2 w ↦
+      | then-not-is_passable-2-via-then-not-is_passable-2 w ↦
           not_passable roads c.args.to links i low inside (sym c.is_passable-in-loop-i.ensures ∙ w.if-not-is_passable-2.true)
-      | then-not-is-passable-2-via-else-not-is-passable-2+then-has w ↦
+      | then-not-is_passable-2-via-else-not-is_passable-2+then-has w ↦
           let laid = (passable_true roads b (sym c.is_passable-in-loop-i.ensures ∙ w.if-not-is_passable-2.false)).0 in
           seen_before roads c.args.to links i low inside
           (sym (seen_is (marks c.loop-i.seen) (take i links) b inv.1 laid.0 (omega (arith, laid.1)))
           ∙ ap (λ (n : ℕ). get_or (false ∷ marks c.loop-i.seen) n false) (sym w.from-else-not-is_passable-2.ensures) ∙ sym w.has.ensures ∙ w.if-has.true)
-      | then-not-is-passable-2-via-else-not-is-passable-2+else-has+then-not-may-follow w ↦
+      | then-not-is_passable-2-via-else-not-is_passable-2+else-has+then-not-may_follow w ↦
           not_joined roads c.args.to links i low inside (sym w.may_follow.ensures ∙ w.if-not-may_follow.true)
     ] in
     route_by_steps roads c.args.from c.args.to links false (omega arith)

@@ -5,7 +5,7 @@ use Rattle.routing.specs.Lent.{lent}
 use Rattle.completion.specs.Onward.{too_dear}
 use Rattle.unlisted.specs.Best.{price}
 use Rattle.unlisted.proofs.Improving.{begins_passable, itself_none, itself_better}
-use Rattle.unlisted.proofs.bests.consider.Goals.{then-taken-via-then-taken, then-taken-via-else-taken+then-not-ends-at, then-taken-via-else-taken+else-not-ends-at+then-not-is-better}
+use Rattle.unlisted.proofs.bests.consider.Goals.{then-taken-via-then-taken, then-taken-via-else-taken+then-not-ends_at, then-taken-via-else-taken+else-not-ends_at+then-not-is_better}
 use Rattle.unlisted.proofs.bests.consider.Goals as goal
 
 pub ends_at-requires : goal.ends_at-requires
@@ -20,8 +20,8 @@ returns-then-taken g c =
     itself_none rank m roads c.args.trip.from c.args.trip.to p c.args.best c.args.line.now c.args.taken
     (elim c.then-taken.branch [
       | then-taken-via-then-taken w ↦ inl w.if-taken.true
-      | then-taken-via-else-taken+then-not-ends-at w ↦ inr (inl (sym w.ends_at.ensures ∙ w.if-not-ends_at.true))
-      | then-taken-via-else-taken+else-not-ends-at+then-not-is-better w ↦
+      | then-taken-via-else-taken+then-not-ends_at w ↦ inr (inl (sym w.ends_at.ensures ∙ w.if-not-ends_at.true))
+      | then-taken-via-else-taken+else-not-ends_at+then-not-is_better w ↦
           inr (inr (ap (too_dear (price rank c.args.best)) (sym c.requires.priced) ∙ not-false _ (sym w.is_better.ensures ∙ w.if-not-is_better.true)))
     ])
 
