@@ -19,10 +19,7 @@ fn read_some<R: Read + Drop>(input: R, heap: Global) -> io::Result<Vec<u8>> {
 fn read_file(rt: &HostRuntime, path: &str) -> anyhow::Result<Vec<u8>> {
     match File::open(rt, path) {
         Ok(file) => Ok(read_some(file, rt.alloc())?),
-        Err(error) => {
-            let message = format!(in rt.alloc(); "cannot read {path}: {error}")?;
-            Err(message.into())
-        }
+        Err(error) => Err(anyhow!("cannot read {path}: {error}")),
     }
 }
 

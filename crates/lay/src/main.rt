@@ -2,40 +2,41 @@
 mod input;
 mod output;
 
+use anyhow::anyhow;
 use input::read_town;
 use network::Draft;
 use output::write_map;
+use std::process::ExitCode;
 use town::{cause, lay_town};
 
 // The draft that a town's text lays, or what is wrong with the first line that is refused.
-fn lay_text(rt: &HostRuntime, text: &[u8]) -> anyhow::Result<Draft> {
+fn lay_text(text: &[u8]) -> anyhow::Result<Draft> {
     match lay_town(text) {
         Ok(draft) => Ok(draft),
         Err(fault) => {
             let line = fault.line;
             let number = fault.refusal.number();
             let words = cause(fault.refusal);
-            let message = format!(in rt.alloc(); "line {line}: refused {number}: {words}")?;
-            Err(message.into())
+            Err(anyhow!("line {line}: refused {number}: {words}"))
         }
     }
 }
 
 fn run(rt: &HostRuntime) -> anyhow::Result<()> {
     let text = read_town(rt)?;
-    let draft = lay_text(rt, &text)?;
+    let draft = lay_text(&text)?;
     let links = draft.link_count();
     let turns = draft.turn_count();
     println!(rt; "laid {links} links and {turns} turns")?;
     write_map(rt, draft)
 }
 
-fn main(rt: HostRuntime) -> anyhow::Result<()> {
+fn main(rt: HostRuntime) -> anyhow::Result<ExitCode> {
     match run(&rt) {
-        Ok(()) => Ok(()),
+        Ok(()) => Ok(ExitCode::SUCCESS),
         Err(error) => {
             eprintln!(rt; "{error}")?;
-            Err(error)
+            Ok(ExitCode::FAILURE)
         }
     }
 }

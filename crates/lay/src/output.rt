@@ -40,8 +40,7 @@ pub(crate) fn write_map(rt: &HostRuntime, draft: Draft) -> anyhow::Result<()> {
     let heap = rt.alloc();
     let image = image_of(heap, draft)?;
     if let Err(error) = fs::write(rt, FILE, image.as_slice()) {
-        let message = format!(in heap; "cannot write {FILE}: {error}")?;
-        return Err(message.into());
+        return Err(anyhow!("cannot write {FILE}: {error}"));
     }
     let size = image.len();
     println!(rt; "wrote {size} bytes to {FILE}")?;

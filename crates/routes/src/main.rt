@@ -9,6 +9,7 @@ use measure::Metres;
 use navigator::seal;
 use network::{Draft, Refusal};
 use session::Session;
+use std::process::ExitCode;
 use talk::talk_about;
 
 // Says why the image is refused, with the number of the record that was not laid.
@@ -37,12 +38,12 @@ fn run(rt: &HostRuntime) -> anyhow::Result<()> {
     Ok(())
 }
 
-fn main(rt: HostRuntime) -> anyhow::Result<()> {
+fn main(rt: HostRuntime) -> anyhow::Result<ExitCode> {
     match run(&rt) {
-        Ok(()) => Ok(()),
+        Ok(()) => Ok(ExitCode::SUCCESS),
         Err(error) => {
             eprintln!(rt; "{error}")?;
-            Err(error)
+            Ok(ExitCode::FAILURE)
         }
     }
 }

@@ -26,9 +26,9 @@ pub fn read_line(line: &[u8]) -> Result<Option<Record>, Refusal>
 fn read_record(keyword: &[u8], fields: &[u8]) -> Option<Record>
     ensures { result ≡ record_of keyword.now (words fields.now) }
 {
-    if keyword == b"link" {
+    if keyword == b"link".as_slice() {
         read_link(fields)
-    } else if keyword == b"turn" {
+    } else if keyword == b"turn".as_slice() {
         read_turn(fields)
     } else {
         None

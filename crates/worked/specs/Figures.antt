@@ -1,6 +1,6 @@
 -- The worked figures, and what it is for one to stand.
 --     730 by (2 ∷ 4 ∷ 3 ∷ [])   a row of a table of routes: the cost, and the links that cost it
---     1 Turns-and 730           a cost under turns_first: turns, and metres
+--     1 turns_and 730           a cost under turns_first: turns, and metres
 --     open_roads, closed_at     the sample map with no link closed, and with one
 --     Figure                    a figure as the documents print it
 --     Pairwise R xs             each element has R to each one after it
@@ -31,7 +31,7 @@ n by r = record { told = n; route = r }
 
 infix 75 ◌turns_and◌
 abbrev pub ◌turns_and◌ : (turns more : ℕ) → ℕ
-turns Turns-and more = turns * 4294967296 + more
+turns turns_and more = turns * 4294967296 + more
 
 abbrev pub open_roads : Roads
 open_roads = record { plan = sample; marks = replicate 1024 false }
@@ -109,11 +109,11 @@ by_metres =
 
 abbrev by_turns_first : List Row
 by_turns_first =
-    0 Turns-and 750 by (1 ∷ 3 ∷ [])
-    ∷ 1 Turns-and 730 by (2 ∷ 4 ∷ 3 ∷ [])
-    ∷ 1 Turns-and 770 by (2 ∷ 5 ∷ [])
-    ∷ 1 Turns-and 1550 by (1 ∷ 3 ∷ 6 ∷ 5 ∷ [])
-    ∷ 2 Turns-and 1530 by (2 ∷ 4 ∷ 3 ∷ 6 ∷ 5 ∷ [])
+    0 turns_and 750 by (1 ∷ 3 ∷ [])
+    ∷ 1 turns_and 730 by (2 ∷ 4 ∷ 3 ∷ [])
+    ∷ 1 turns_and 770 by (2 ∷ 5 ∷ [])
+    ∷ 1 turns_and 1550 by (1 ∷ 3 ∷ 6 ∷ 5 ∷ [])
+    ∷ 2 turns_and 1530 by (2 ∷ 4 ∷ 3 ∷ 6 ∷ 5 ∷ [])
     ∷ []
 
 abbrev by_narrowest : List Row
