@@ -1,4 +1,6 @@
 // Runs calls on sealed maps and on the three measures, and prints what each answers.
+#![tactic(auto)]
+
 mod images;
 mod marks;
 mod measures;

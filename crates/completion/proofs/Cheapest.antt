@@ -1,5 +1,5 @@
 -- What growing ends with is a cheapest completion. Assumes nothing.
-use Rattle.std.proofs.Common.{◌≡◌, ℕ, zero, suc, ◌+◌, ◌-◌, ◌<◌, ◌≤◌, Bool, true, false, List, [], ◌∷◌, ◌++◌, length, get_or, take, replicate, Option, sym, refl, ap, ◌∙◌, subst, ap₂, arith, length-append}
+use Rattle.std.proofs.Common.{◌≡◌, ℕ, ◌+◌, ◌-◌, ◌<◌, ◌≤◌, Bool, true, List, [], ◌∷◌, ◌++◌, length, get_or, take, replicate, Option, sym, refl, ap, ◌∙◌, subst, arith, length-append}
 use lib.ListN.{length-replicate}
 use Rattle.std.proofs.lemmas.List.{take_at, take_all}
 use Rattle.network.specs.Roads.{Roads}
@@ -12,8 +12,8 @@ use Rattle.completion.specs.declared.tree.Tree.{Tree}
 use Rattle.completion.specs.Graph.{Graph, Laws}
 use Rattle.completion.specs.Graph as ways
 use Rattle.completion.specs.Growth.{State, Inv, NoneSought}
-use Rattle.completion.specs.Onward.{Setting, has, too_dear, graph}
-use Rattle.completion.specs.View.{view, tally, depth_of, Threaded, Traced, Written, EndsBest}
+use Rattle.completion.specs.Onward.{Setting, too_dear, graph}
+use Rattle.completion.specs.View.{view, depth_of, Threaded, Written, EndsBest}
 use Rattle.completion.specs.Completion.{Begins, end_of, Completes, CheapestCompletion, outset, Bans}
 use Rattle.completion.proofs.Graphs.{graph_laws, graph_begin, graph_size, dear_above}
 use Rattle.completion.proofs.Ways.{Leads, on_more}

@@ -1,21 +1,20 @@
 -- The ways of a beginning's setting are its completions. Assumes nothing.
-use Rattle.std.proofs.Common.{◌≡◌, ℕ, zero, suc, ◌<◌, ◌≤◌, Bool, true, false, not, ◌&&◌, ◌||◌, eqb, leb, ◌⊎◌, List, [], ◌∷◌, ◌++◌, length, Option, sym, refl, ap, ◌∙◌, subst, inl, inr, ⊎_elim, arith}
+use Rattle.std.proofs.Common.{◌≡◌, ℕ, zero, suc, ◌<◌, Bool, true, false, not, ◌||◌, eqb, leb, List, [], ◌∷◌, ◌++◌, length, Option, sym, refl, ap, ◌∙◌, subst, ⊎_elim, arith}
 use Rattle.std.specs.List.{ContainsAt as Has, AllByRecursion as All}
 use Rattle.std.proofs.ByRecursion.{All-append}
 use Rattle.std.proofs.lemmas.List.{append-nil}
 use Rattle.std.proofs.lemmas.Bool.{and_parts, and_from, or_parts, or_from, cases_Bool, both_ways, le-leb, not-true, not_from_false, eqb-true, eq-eqb}
 use Rattle.network.specs.Plan.{Plan, link, laid, Laid}
 use Rattle.network.specs.Roads.{Roads, Passable, Joins, closed, turn, barred}
-use Rattle.network.specs.Shared.{Once, stands_in}
+use Rattle.network.specs.Shared.{stands_in}
 use Rattle.measure.specs.Ranks.{Ranks}
 use Rattle.measure.specs.Cost.{onward, step, cost}
 use Rattle.routing.specs.Route.{Joined, last_of, Simple}
-use Rattle.routing.specs.Enumeration.{joins}
 use Rattle.routing.proofs.Members.{has_none}
 use Rattle.routing.proofs.Conditions.{joins_true, joins_is, stands_in_true, stands_in_is}
 use Rattle.completion.specs.Graph.{Graph}
 use Rattle.completion.specs.Graph as ways
-use Rattle.completion.specs.Onward.{Setting, has, tail, stop, blocked, open_turn, step_from, graph}
+use Rattle.completion.specs.Onward.{Setting, has, open_turn, step_from, graph}
 use Rattle.completion.specs.Completion.{Begins, end_of, Completes, outset, Bans}
 use Rattle.completion.proofs.Graphs.{laid_in}
 use Rattle.completion.proofs.Splits.{last_append, all_parts, once_parts, once_from, joined_parts, joined_from, onward_append, Apart}

@@ -1,11 +1,11 @@
 -- The ways of a setting keep the laws of graphs. Assumes nothing.
-use Rattle.std.proofs.Common.{◌≡◌, ℕ, zero, suc, ◌<◌, ◌≤◌, Bool, true, false, not, ◌&&◌, eqb, ltb, leb, length, Some, None, Option, sym, refl, ap, ◌∙◌, arith}
-use Rattle.std.proofs.lemmas.Bool.{and_parts, leb-true, not-true, not_from_false, ltb-false, le-ltb, false≢true}
+use Rattle.std.proofs.Common.{◌≡◌, ℕ, zero, suc, ◌≤◌, true, ltb, leb, length, Some, None, Option, refl, arith}
+use Rattle.std.proofs.lemmas.Bool.{and_parts, leb-true, not-true, not_from_false, ltb-false, le-ltb}
 use Rattle.network.specs.Plan.{Plan, link, laid, Laid}
 use Rattle.network.specs.Roads.{turn}
 use Rattle.measure.specs.Ranks.{Ranks, Lawful}
-use Rattle.completion.specs.Graph.{Graph, Laws}
-use Rattle.completion.specs.Onward.{Setting, tail, stop, blocked, open_turn, step_from, too_dear, graph}
+use Rattle.completion.specs.Graph.{Laws}
+use Rattle.completion.specs.Onward.{Setting, tail, step_from, too_dear, graph}
 
 module _ (m : Ranks) (law : Lawful m) (plan : Plan) where
   pub step_raises : (a c b : ℕ) → c ≤ step_from m plan c a b

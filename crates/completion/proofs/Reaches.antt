@@ -1,16 +1,16 @@
 -- The links that start at a node are those between two places. Assumes nothing.
-use Rattle.std.proofs.Common.{◌≡◌, ℕ, zero, suc, ◌+◌, ◌-◌, ◌<◌, ◌≤◌, Bool, true, false, not, eqb, ◌≢◌, List, ◌∷◌, length, get_or, count_by, sym, refl, ap, ◌∙◌, subst, ⊎_elim, arith}
+use Rattle.std.proofs.Common.{◌≡◌, ℕ, zero, suc, ◌+◌, ◌-◌, ◌<◌, ◌≤◌, true, not, eqb, ◌≢◌, List, length, get_or, count_by, sym, ap, ◌∙◌, subst, ⊎_elim, arith}
 use Rattle.std.proofs.lemmas.Bool.{and_parts, eqb-true, both_ways}
 use Rattle.network.specs.declared.link.Link.{Link}
 use Rattle.network.specs.declared.linkset.LinkSet.{LinkSet}
 use Rattle.network.specs.Marks.{marks}
-use Rattle.network.specs.Plan.{Plan, link, laid, Laid, no_link}
+use Rattle.network.specs.Plan.{link, laid, Laid, no_link}
 use Rattle.network.specs.Roads.{LinksBelow}
 use Rattle.measure.specs.Ranks.{Ranks}
 use Rattle.completion.specs.declared.quest.Stand.{Stand}
 use Rattle.completion.specs.declared.tree.Tree.{Tree}
 use Rattle.completion.specs.Graph.{Graph, Laws}
-use Rattle.completion.specs.Growth.{State, Inv, Latest, Relaxed, Put}
+use Rattle.completion.specs.Growth.{State, Inv, Latest, Relaxed}
 use Rattle.completion.specs.Onward.{Setting, stop, blocked, graph}
 use Rattle.completion.specs.View.{view, tally, Ready, Growing, Stands}
 use Rattle.completion.proofs.Graphs.{laid_in}

@@ -1,24 +1,21 @@
 -- Taking the least of the frontier, and settling it. Assumes nothing.
-use Rattle.std.proofs.Common.{◌≡◌, ℕ, zero, suc, ◌+◌, ◌-◌, ◌<◌, ◌≤◌, Bool, true, false, eqb, ◌≢◌, List, map, length, get_or, count_by, sym, refl, ap, ◌∙◌, subst, arith}
+use Rattle.std.proofs.Common.{◌≡◌, ℕ, zero, suc, ◌+◌, ◌-◌, ◌<◌, ◌≤◌, true, false, eqb, ◌≢◌, List, map, length, get_or, count_by, sym, refl, ap, ◌∙◌, subst, arith}
 use Rattle.std.proofs.lemmas.Bool.{eq-eqb, ne_eqb}
-use Rattle.network.specs.declared.link.Link.{Link}
 use Rattle.network.specs.declared.linkset.LinkSet.{LinkSet}
 use Rattle.network.specs.Marks.{marks, marked}
-use Rattle.network.specs.Plan.{link, no_link}
+use Rattle.network.specs.Plan.{link}
 use Rattle.measure.specs.Ranks.{Ranks}
 use Rattle.frontier.specs.Tournament.{NoneWaits, Sound, Changed}
 use Rattle.frontier.specs.Tournament as waiting
-use Rattle.frontier.specs.declared.frontier.Frontier.{Frontier}
 use Rattle.completion.specs.declared.quest.Stand.{Stand}
 use Rattle.completion.specs.declared.tree.Tree.{Tree}
 use Rattle.completion.specs.Graph.{Graph, Laws}
 use Rattle.completion.specs.Growth.{State, Inv, Latest, Least, NoneSought}
 use Rattle.completion.specs.Onward.{Setting, tail, stop, graph}
-use Rattle.completion.specs.View.{view, tally, Ready, Growing, Stands, EndsBest}
+use Rattle.completion.specs.View.{view, tally, Growing, Stands, EndsBest}
 use Rattle.completion.proofs.Graphs.{graph_size}
 use Rattle.completion.proofs.Ways.{none_cheaper, none_sought, some_in, settle_inv, settle_late}
 use Rattle.completion.proofs.Views.{label_at, depth_at, settle_view, settle_ready, tally_settled, tally_few, view_same, least_is, none_left}
-use Rattle.completion.proofs.Reaches.{link_at}
 
 goal_is : (m : Ranks) (s : Setting) (t : ℕ) → (graph m s).goal t ≡ eqb (link s.plan.links t).end s.to
 unfolding graph

@@ -4,7 +4,7 @@ use Rattle.std.proofs.lemmas.List.{get_or-take, get_or-drop, get_or-set_same, ge
 use Rattle.std.proofs.lemmas.Bool.{cases_eq}
 use Rattle.completion.specs.declared.tree.Tree.{Tree}
 use Rattle.completion.specs.Graph.{Graph, Laws}
-use Rattle.completion.specs.Growth.{State, Inv, Chain, Follows}
+use Rattle.completion.specs.Growth.{State, Inv, Chain}
 use Rattle.completion.specs.View.{view, depth_of, before_of, Threaded, Traced}
 use Rattle.completion.proofs.Ways.{Leads, chain_none, chain_more, chain_way, came_after, at_source, some_in}
 

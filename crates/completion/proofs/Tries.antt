@@ -1,10 +1,10 @@
 -- Going on to a link, as the code tries it. Assumes nothing.
-use Rattle.std.proofs.Common.{◌≡◌, ℕ, ◌<◌, ◌≤◌, Bool, true, false, not, ◌&&◌, eqb, sym, refl, ap, ◌∙◌, subst, ap₂, arith}
-use Rattle.std.proofs.lemmas.Bool.{and_parts, and_from, both_ways, not-true, not_from_false, eq-eqb, eqb-true}
+use Rattle.std.proofs.Common.{◌≡◌, ℕ, ◌<◌, ◌≤◌, true, false, not, eqb, ap, ◌∙◌, ap₂, arith}
+use Rattle.std.proofs.lemmas.Bool.{and_parts, and_from, both_ways, not-true, not_from_false, eq-eqb}
 use Rattle.network.specs.Plan.{link, laid, Laid}
 use Rattle.measure.specs.Ranks.{Ranks}
 use Rattle.completion.specs.Graph.{Graph}
-use Rattle.completion.specs.Growth.{State, Fine, Better, Labelled}
+use Rattle.completion.specs.Growth.{State, Fine, Better}
 use Rattle.completion.specs.Onward.{Setting, tail, stop, blocked, open_turn, step_from, too_dear, graph}
 use Rattle.completion.proofs.Completions.{laid_is}
 

@@ -1,12 +1,12 @@
 -- The search is right: over any lawful graph, with no code in sight. Assumes nothing.
-use Rattle.std.proofs.Common.{◌≡◌, ℕ, zero, suc, ◌+◌, ◌-◌, ◌<◌, ◌≤◌, Bool, true, false, ◌≢◌, ◌⊎◌, List, [], ◌∷◌, sym, refl, ap, ◌∙◌, subst, inl, inr, ⊎_elim, arith}
+use Rattle.std.proofs.Common.{◌≡◌, ℕ, ◌+◌, ◌<◌, ◌≤◌, true, false, ◌≢◌, ◌⊎◌, List, [], ◌∷◌, sym, refl, ap, ◌∙◌, subst, inl, inr, ⊎_elim, arith}
 use Rattle.std.specs.List.{ContainsAt as Has}
 use Rattle.std.proofs.lemmas.Bool.{cases_Bool, cases_eq, cases_lt, both_ways}
 use Rattle.network.specs.Shared.{Once}
 use Rattle.routing.specs.Route.{last_of}
 use Rattle.routing.proofs.Members.{has_cases, has_none}
 use Rattle.completion.specs.Graph.{Graph, Laws, Joined, Way, cost_on, cost, last, Arrives}
-use Rattle.completion.specs.Growth.{State, Follows, Labelled, Inv, Latest, Least, AllSettled, Fine, Better, Put, Kept, Taken, Relaxed, Settled, Fresh, Deep, Chain, NoneCheaper, NoneSought}
+use Rattle.completion.specs.Growth.{State, Follows, Labelled, Inv, Latest, Least, AllSettled, Fine, Better, Put, Relaxed, Settled, Fresh, Deep, Chain, NoneCheaper, NoneSought}
 
 -- going on never lowers a cost
 pub on_more : (g : Graph) → Laws g → (bs : List ℕ) (c a : ℕ) → c ≤ cost_on g c a bs

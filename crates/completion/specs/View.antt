@@ -6,7 +6,7 @@
 --     Stands rank s labels tree stand   where a way stands: at a link of the tree, or at the beginning
 --     Tried, Ends                   what a try of a link finds, and what growing ends with
 --     Threaded, Traced              the way to a link, by the links before
-use Rattle.std.specs.Prelude.{◌≡◌, ℕ, ◌+◌, ◌-◌, ◌<◌, ◌≤◌, Bool, true, false, not, ◌&&◌, List, ◌∷◌, ◌++◌, map, length, get_or, replicate, count_by, Option, MatchOption, nat_lt, slice_index, slice_index_or}
+use Rattle.std.specs.Prelude.{◌≡◌, ℕ, ◌+◌, ◌-◌, ◌<◌, ◌≤◌, true, false, not, ◌&&◌, List, ◌∷◌, ◌++◌, map, length, get_or, replicate, count_by, Option, MatchOption, nat_lt, slice_index, slice_index_or}
 use Rattle.network.specs.Marks.{marks}
 use Rattle.frontier.specs.Tournament.{Sound, waits}
 use Rattle.completion.specs.declared.tree.Tree.{Tree}

@@ -1,4 +1,5 @@
 // The cheapest completion of a beginning.
+#![tactic(auto)]
 
 mod beginning;
 mod completing;

@@ -1,9 +1,9 @@
 -- Numbers of at most 9 digits, and the words that write them.
-use Rattle.std.proofs.Common.{◌≡◌, ℕ, zero, suc, ◌+◌, ◌^◌, ◌<◌, ◌≤◌, Bool, true, false, cond, not, ◌&&◌, eqb, ltb, leb, List, [], ◌∷◌, ◌++◌, length, get_or, Some, None, decimal, Option, sym, refl, ap, ◌∙◌, subst, inl, inr, arith, rules}
+use Rattle.std.proofs.Common.{◌≡◌, ℕ, ◌^◌, ◌<◌, ◌≤◌, true, false, not, eqb, ltb, leb, List, length, get_or, Some, None, decimal, sym, ap, ◌∙◌, subst, inl, inr, arith, rules}
 use Rattle.std.proofs.lemmas.Fmt.{decimal-digits_value, decimal_nonempty, first_decimal, length-decimal-le, digits_decimal, digits_value-decimal}
 use Rattle.std.proofs.lemmas.Str.Parse.{IsNumeralModel, IsDigitsTest, FoldsDigits, numerals_by_fold, not_in_digits, digits_value_short}
 use Rattle.std.proofs.lemmas.Bool.{cases_Bool, cases_lt, and_parts, and_cases, and_from, and_left, and_right, eqb-false, ltb-false, leb-true, le-leb, le-ltb, ne_eqb, not-true, not_from_false, cond-true, cond-false}
-use Rattle.text.specs.Numbers.{digit, all_digits, padded, numeral, value_after, value, number_of}
+use Rattle.text.specs.Numbers.{all_digits, padded, numeral, value_after, value, number_of}
 
 tells : IsDigitsTest (λ ds. all_digits ds ≡ true)
 unfolding all_digits

@@ -1,5 +1,5 @@
 -- The command that is read is the one that the line says.
-use Rattle.std.proofs.Common.{◌≡◌, ℕ, ◌-◌, ◌<◌, Bool, true, false, cond, ◌&&◌, eqb, ltb, ◌⊎◌, List, [], ◌∷◌, ◌++◌, length, get_or, take, drop, Some, None, codes, decimal, Option, sym, refl, ap, ◌∙◌, subst, ap₂, inl, inr, arith}
+use Rattle.std.proofs.Common.{◌≡◌, ℕ, ◌-◌, ◌<◌, Bool, true, false, cond, ◌&&◌, eqb, ltb, ◌⊎◌, List, [], ◌∷◌, ◌++◌, length, get_or, take, drop, Some, None, codes, decimal, sym, refl, ap, ◌∙◌, subst, ap₂, inl, inr, arith}
 use Rattle.std.specs.Str.{bytes_eq}
 use Rattle.std.proofs.lemmas.Slice.Eq.{bytes_eq-Decides}
 use Rattle.std.proofs.lemmas.List.{take_rest}
@@ -8,8 +8,8 @@ use Rattle.text.specs.Numbers.{number_of}
 use Rattle.console.specs.declared.command.Command.{Command}
 use Rattle.console.specs.declared.command.Command.TheVariants.{Ask, Next, Trial, End, Close, Open, Turn}
 use Rattle.console.specs.Commands.{Short, Sayable, line_of, Says}
-use Rattle.text.specs.Parts.{◌⊛◌, ◌and_then◌}
-use Rattle.console.specs.Cuts.{behind, cut, ask, ask_of, lettered, turn, turn_of, on_link, command_by, command_of}
+use Rattle.text.specs.Parts.{◌⊛◌}
+use Rattle.console.specs.Cuts.{cut, ask, ask_of, lettered, turn, turn_of, on_link, command_by, command_of}
 use Rattle.console.proofs.Blanks.{some_same, never, two_parts, three_parts, then_parts, cut_says, cut_read}
 use Rattle.console.proofs.Figures.{number_says, number_read, no_blank}
 

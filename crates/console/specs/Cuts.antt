@@ -7,7 +7,7 @@
 --     on_link word link       the command of a first word and the one link after it
 --     command_by word fields  the command of a first word and the fields after it
 --     command_of line         the command that a line says
-use Rattle.std.specs.Prelude.{ℕ, Bool, cond, ◌&&◌, List, [], ◌∷◌, length, drop, Some, None, codes, Option, ◌==◌, nat_lt, slice_index}
+use Rattle.std.specs.Prelude.{ℕ, cond, ◌&&◌, List, [], ◌∷◌, length, drop, Some, None, codes, Option, ◌==◌, nat_lt, slice_index}
 use Rattle.std.specs.Str.{bytes_eq}
 use Rattle.text.specs.Numbers.{number_of}
 use Rattle.text.specs.Parts.{◌⊛◌, ◌and_then◌}

@@ -1,4 +1,6 @@
 // Runs cases of the rules through the public calls, and prints what each answers.
+#![tactic(auto)]
+
 mod answers;
 mod buffers;
 mod changes;

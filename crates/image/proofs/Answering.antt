@@ -1,5 +1,5 @@
 -- What reading an image answers. Assumes nothing.
-use Rattle.std.proofs.Common.{◌≡◌, ℕ, ◌+◌, Bool, true, false, cond, List, drop, Ok, Err, Result, sym, refl, ap, ◌∙◌, subst}
+use Rattle.std.proofs.Common.{◌≡◌, ℕ, ◌+◌, Bool, true, false, cond, List, drop, Ok, Err, sym, refl, ap, ◌∙◌, subst}
 use Rattle.network.specs.declared.draft.Draft.{Draft}
 use Rattle.image.specs.declared.fault.ReadFault.{ReadFault}
 use Rattle.image.specs.declared.fault.ReadFault.TheVariants.{ContentsWrong, RecordNotLaid}

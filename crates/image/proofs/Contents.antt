@@ -1,9 +1,9 @@
 -- The table of contents, read entry by entry. Assumes nothing.
-use Rattle.std.proofs.Common.{◌≡◌, ℕ, ◌+◌, ◌-◌, ◌*◌, ◌<◌, ◌≤◌, Bool, true, false, ◌&&◌, eqb, List, length, get_or, drop, sym, refl, ap, ◌∙◌, subst, ap₂, ⊎_elim, arith, length-drop}
+use Rattle.std.proofs.Common.{◌≡◌, ℕ, ◌+◌, ◌-◌, ◌*◌, ◌<◌, Bool, true, false, ◌&&◌, eqb, List, length, drop, sym, refl, ap, ◌∙◌, ap₂, ⊎_elim, arith, length-drop}
 use Rattle.std.proofs.lemmas.List.{drop-drop}
 use Rattle.std.proofs.lemmas.Bool.{eq-eqb, ne_eqb, cases_eq, and_from, and_left, and_right}
 use Rattle.image.specs.declared.entry.ContentsEntry.{ContentsEntry}
-use Rattle.image.specs.Image.{two_at, four_at, entry_right, links_told, turns_told, contents_right}
+use Rattle.image.specs.Image.{two_at, entry_right, links_told, turns_told, contents_right}
 use Rattle.image.specs.Steps.{entry_is, EntryIn}
 
 eqb_shift : (k a b : ℕ) → eqb (k + a) (k + b) ≡ eqb a b

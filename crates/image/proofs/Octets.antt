@@ -1,7 +1,7 @@
 -- Bytes and the numbers that they stand for. Assumes nothing.
-use Rattle.std.proofs.Common.{◌≡◌, ℕ, suc, ◌+◌, ◌-◌, ◌*◌, ◌/◌, ◌%◌, ◌<◌, ◌≤◌, List, [], ◌∷◌, ◌++◌, length, get_or, take, drop, sym, refl, ap, ◌∙◌, ap₂, arith, length-drop}
+use Rattle.std.proofs.Common.{◌≡◌, ℕ, ◌+◌, ◌*◌, ◌/◌, ◌%◌, ◌<◌, ◌≤◌, List, [], ◌∷◌, ◌++◌, length, get_or, take, drop, sym, refl, ap, ◌∙◌, ap₂, arith, length-drop}
 use Rattle.std.proofs.lemmas.List.{get_or-drop}
-use Rattle.image.specs.Image.{two, four, two_at, four_at, record_bytes, link_in, turn_in}
+use Rattle.image.specs.Image.{two, four, four_at, record_bytes, link_in, turn_in}
 use Rattle.image.specs.Steps.{Octets}
 
 -- the bytes of a number that was read

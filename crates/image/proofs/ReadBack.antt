@@ -1,17 +1,16 @@
 -- An image that is read is the image of the plan that it holds. Assumes nothing.
-use Rattle.std.proofs.Common.{◌≡◌, ℕ, zero, suc, ◌+◌, ◌-◌, ◌*◌, ◌<◌, ◌≤◌, min, Bool, true, false, cond, not, ◌&&◌, eqb, ltb, List, [], ◌∷◌, ◌++◌, map, length, get_or, take, drop, is_some, Some, None, Option, unwrap_or, sym, refl, ap, ◌∙◌, subst, ap₂, ⊎_elim, append_assoc, arith, length-drop}
+use Rattle.std.proofs.Common.{◌≡◌, ℕ, zero, suc, ◌+◌, ◌-◌, ◌*◌, ◌<◌, ◌≤◌, min, Bool, true, false, cond, ◌&&◌, eqb, List, [], ◌∷◌, ◌++◌, map, length, get_or, take, drop, is_some, Some, None, Option, unwrap_or, sym, refl, ap, ◌∙◌, subst, ap₂, ⊎_elim, append_assoc, arith, length-drop}
 use Rattle.std.specs.List.{flat_map}
 use Rattle.std.proofs.lemmas.List.{append-nil, map_push, take-append-drop, drop-drop, length_push, nil_from_length}
-use Rattle.std.proofs.lemmas.Bool.{cases_lt, and_parts, eqb-true, not-false, false≢true}
+use Rattle.std.proofs.lemmas.Bool.{cases_lt, and_parts, eqb-true, false≢true}
 use Rattle.network.specs.declared.link.Link.{Link}
 use Rattle.network.specs.declared.turn.Turn.{Turn}
 use Rattle.network.specs.declared.record.Record.{Record}
 use Rattle.network.specs.declared.record.Record.TheVariants as records-of
 use Rattle.network.specs.Letters.{class_of, letter_of}
 use Rattle.network.specs.Plan.{Plan, empty}
-use Rattle.network.specs.Refusals.{Row, row, first_refusal}
-use Rattle.network.specs.Laying.{unless, add_link, add_turn, link_refusal, turn_refusal, pair_rows, letter_rows, turn_rows, record_refusal, with_record}
-use Rattle.image.specs.Image.{two, four, two_at, four_at, record_bytes, link_record, turn_record, records, contents_entry, contents, encode, link_in, turn_in, entry_right, links_told, turns_told, contents_right, record_in, records_in, Reading, holds, contents_wrong, not_laid, laid_or, lay_all, decode}
+use Rattle.network.specs.Laying.{unless, add_link, add_turn, link_refusal, turn_refusal, record_refusal, with_record}
+use Rattle.image.specs.Image.{two, four, two_at, four_at, record_bytes, link_record, turn_record, records, contents_entry, contents, encode, entry_right, links_told, turns_told, contents_right, record_in, records_in, Reading, holds, not_laid, laid_or, lay_all}
 use Rattle.image.specs.Steps.{Octets}
 use Rattle.image.proofs.Octets.{octets_drop, two_back, four_back, eight, link_back, turn_back}
 use Rattle.image.proofs.Readings.{link_comes, turn_comes}

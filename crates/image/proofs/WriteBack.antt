@@ -1,20 +1,19 @@
 -- The image of a lawful plan reads back as the plan. Assumes nothing.
-use Rattle.std.proofs.Common.{◌≡◌, ℕ, zero, suc, ◌+◌, ◌-◌, ◌*◌, ◌/◌, ◌%◌, ◌<◌, ◌≤◌, Bool, true, false, cond, not, ◌&&◌, ◌||◌, eqb, ltb, leb, List, [], ◌∷◌, ◌++◌, map, length, get_or, take, drop, is_some, Some, None, Option, unwrap_or, sym, refl, ap, ◌∙◌, subst, ap₂, append_assoc, arith, length-append}
+use Rattle.std.proofs.Common.{◌≡◌, ℕ, zero, suc, ◌+◌, ◌*◌, ◌<◌, ◌≤◌, Bool, true, false, cond, not, ◌&&◌, eqb, ltb, leb, List, [], ◌∷◌, ◌++◌, map, length, get_or, drop, is_some, Some, None, Option, unwrap_or, sym, refl, ap, ◌∙◌, subst, ap₂, append_assoc, arith, length-append}
 use Rattle.std.specs.List.{flat_map, AllByRecursion as All}
-use Rattle.std.proofs.lemmas.Bool.{eq-eqb, ne_eqb, lt-ltb, le-ltb, le-leb, and_from, or_from, not_from_true}
+use Rattle.std.proofs.lemmas.Bool.{eq-eqb, ne_eqb, le-ltb, le-leb, and_from, or_from, not_from_true}
 use Rattle.std.proofs.lemmas.List.{append-nil, get_or_at, get_or_append_left}
 use Rattle.std.proofs.ByRecursion.{All-from_get_or}
 use Rattle.network.specs.declared.link.Link.{Link}
 use Rattle.network.specs.declared.turn.Turn.{Turn}
 use Rattle.network.specs.declared.record.Record.{Record}
-use Rattle.network.specs.Plan.{Plan, empty, no_link, no_turn, Lawful, Laid, laid, link, last_start, has_entry, same_pair, LinkWithin, LinksWithin, StartsRise, EntryWithin, Meets, PairsApart}
+use Rattle.network.specs.Plan.{Plan, empty, no_link, no_turn, Lawful, Laid, laid, last_start, has_entry, same_pair, LinkWithin, StartsRise, EntryWithin, Meets}
 use Rattle.network.specs.Letters.{class_of, letter_of}
-use Rattle.network.specs.Refusals.{Row}
-use Rattle.network.specs.Laying.{outside, link_rows, turn_rows, record_refusal, with_record, add_link, add_turn}
+use Rattle.network.specs.Laying.{outside, link_rows, turn_rows, record_refusal, with_record, add_turn}
 use Rattle.network.proofs.Rows.{none_applies}
 use Rattle.network.proofs.Entries.{none_has_entry}
 use Rattle.image.proofs.ReadBack.{link_laid, turn_laid}
-use Rattle.image.specs.Image.{two, four, two_at, four_at, record_bytes, link_record, turn_record, records, contents_entry, contents, encode, link_in, turn_in, entry_right, links_told, turns_told, contents_right, record_in, records_in, Reading, holds, contents_wrong, not_laid, laid_or, lay_all, decode}
+use Rattle.image.specs.Image.{four_at, record_bytes, link_record, turn_record, records, contents, encode, link_in, turn_in, entry_right, links_told, turns_told, contents_right, records_in, holds, contents_wrong, not_laid, laid_or, lay_all, decode}
 use Rattle.image.proofs.Octets.{two_again, four_again}
 use Rattle.image.proofs.Readings.{link_comes, turn_comes}
 use Rattle.image.proofs.Written.{length_encode}

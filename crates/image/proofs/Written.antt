@@ -1,10 +1,9 @@
 -- Bytes written into a buffer, one part after another. Assumes nothing.
-use Rattle.std.proofs.Common.{◌≡◌, ℕ, zero, suc, ◌+◌, ◌-◌, ◌*◌, ◌<◌, ◌≤◌, List, [], ◌∷◌, ◌++◌, map, length, get_or, take, drop, sym, refl, ap, ◌∙◌, ap₂, append_assoc, arith, length-append, length-drop}
+use Rattle.std.proofs.Common.{◌≡◌, ℕ, ◌+◌, ◌*◌, ◌<◌, ◌≤◌, List, [], ◌∷◌, ◌++◌, map, length, get_or, take, drop, sym, refl, ap, ◌∙◌, ap₂, append_assoc, arith, length-append, length-drop}
 use Rattle.std.specs.List.{flat_map}
 use Rattle.std.proofs.lemmas.List.{take_at, take_more, drop_at, drop-drop, flat_map_more, length-take-le}
 use Rattle.network.specs.Plan.{Plan}
-use Rattle.image.specs.Image.{record_bytes, link_record, turn_record, records, contents, encode}
-use Rattle.network.specs.declared.record.Record.{Record}
+use Rattle.image.specs.Image.{record_bytes, link_record, turn_record, contents, encode}
 use Rattle.image.specs.Writes.{written}
 
 pub length_written : (at : ℕ) (bytes buffer : List ℕ) → at + length bytes ≤ length buffer → length (written at bytes buffer) ≡ length buffer

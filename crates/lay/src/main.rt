@@ -1,4 +1,6 @@
 // Lays the text of a town, seals it, writes the image to map.img and reads that file back.
+#![tactic(auto)]
+
 mod input;
 mod output;
 

@@ -2,7 +2,6 @@
 --     onward m plan n a bs    the rank after the links bs, where n is the rank after link a before them
 --     cost m plan route       from the start over the first link, the turn, the second link and so on to the last link
 use Rattle.std.specs.Prelude.{ℕ, List, [], ◌∷◌}
-use Rattle.network.specs.declared.turn.Turn.{Turn}
 use Rattle.network.specs.Plan.{Plan, link}
 use Rattle.network.specs.Roads.{turn}
 use Rattle.measure.specs.Ranks.{Ranks}

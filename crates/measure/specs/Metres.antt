@@ -1,5 +1,5 @@
 -- The measure metres: starts at 0, adds lengths and extras, and stops at 4,294,967,295.
-use Rattle.std.specs.Prelude.{ℕ, ◌≤◌}
+use Rattle.std.specs.Prelude.{ℕ}
 use Rattle.std.proofs.Common.{arith}
 use Rattle.measure.specs.Ranks.{Ranks, Lawful, added}
 

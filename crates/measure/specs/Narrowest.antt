@@ -1,5 +1,5 @@
 -- The measure narrowest: starts at 0, and is the tightness of the tightest link so far, at most 255; turns leave it.
-use Rattle.std.specs.Prelude.{ℕ, ◌≤◌, min, max}
+use Rattle.std.specs.Prelude.{ℕ, min, max}
 use Rattle.std.proofs.Common.{arith}
 use Rattle.measure.specs.Ranks.{Ranks, Lawful}
 

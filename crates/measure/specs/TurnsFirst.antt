@@ -4,7 +4,7 @@
 --     is_turn class     left, right and back are turns; straight on and barred are none
 --     turn_of class     what a turn of the class adds
 --     turns_first       the ranks
-use Rattle.std.specs.Prelude.{ℕ, ◌+◌, ◌≤◌, Bool, cond, ◌&&◌, nat_le}
+use Rattle.std.specs.Prelude.{ℕ, ◌+◌, Bool, cond, ◌&&◌, nat_le}
 use Rattle.std.proofs.Common.{arith}
 use Rattle.measure.specs.Ranks.{Ranks, Lawful, added}
 

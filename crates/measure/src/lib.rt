@@ -1,3 +1,5 @@
+#![tactic(auto)]
+
 mod measures;
 mod metres;
 mod narrowest;

@@ -3,11 +3,10 @@
 --     end_refusal, ended          the question shut
 --     mark_refusal, marked_so     the mark of one link, for close and for open
 --     change_refusal, turned      the turn of a pair
-use Rattle.std.specs.Prelude.{ℕ, Bool, not, ◌||◌, List, [], ◌∷◌, Some, None, Option}
+use Rattle.std.specs.Prelude.{ℕ, Bool, not, ◌||◌, [], ◌∷◌, Some, None, Option}
 use Rattle.network.specs.Plan.{laid}
-use Rattle.network.specs.Roads.{Roads}
 use Rattle.network.specs.Marks.{marked}
-use Rattle.network.specs.Refusals.{Row, row, first_refusal}
+use Rattle.network.specs.Refusals.{row, first_refusal}
 use Rattle.network.specs.Laying.{outside, unless}
 use Rattle.network.specs.Changing.{set_turn_refusal, with_set_turn}
 use Rattle.navigator.specs.declared.question.Question.TheVariants.{Shut, Open}

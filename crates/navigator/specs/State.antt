@@ -2,7 +2,7 @@
 --     State          the roads: the plan that was laid and a closed mark for each link; and the question
 --     state town     the state that a town of the code holds
 --     sealed plan    a plan just sealed: every link open, and no question
-use Rattle.std.specs.Prelude.{Bool, false, List, replicate}
+use Rattle.std.specs.Prelude.{false, replicate}
 use Rattle.network.specs.Plan.{Plan}
 use Rattle.network.specs.Roads.{Roads}
 use Rattle.network.specs.Laid.{plan}

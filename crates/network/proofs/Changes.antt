@@ -1,10 +1,9 @@
 -- Entries with one changed. Assumes nothing.
-use Rattle.std.proofs.Common.{◌≡◌, ℕ, zero, suc, ◌+◌, ◌<◌, ◌≤◌, Bool, true, false, cond, not, ◌&&◌, eqb, List, [], ◌∷◌, ◌++◌, length, get_or, set, Some, None, Option, unwrap_or, sym, refl, ap, ◌∙◌, subst, ap₂, ⊎_elim, arith, length-set}
+use Rattle.std.proofs.Common.{◌≡◌, ℕ, zero, suc, ◌<◌, ◌≤◌, Bool, true, false, cond, not, ◌&&◌, eqb, List, [], ◌∷◌, ◌++◌, length, get_or, Some, None, Option, unwrap_or, sym, refl, ap, ◌∙◌, subst, ap₂, ⊎_elim, arith, length-set}
 use Rattle.std.proofs.lemmas.List.{get_or-set_same, get_or-set_other}
 use Rattle.std.proofs.lemmas.Bool.{cases_eq, and_parts, eqb-true}
-use Rattle.network.specs.declared.link.Link.{Link}
 use Rattle.network.specs.declared.turn.Turn.{Turn}
-use Rattle.network.specs.Plan.{Plan, Lawful, no_turn, Laid, link, same_pair, has_entry, EntryWithin, Meets}
+use Rattle.network.specs.Plan.{Plan, Lawful, no_turn, same_pair, has_entry, EntryWithin, Meets}
 use Rattle.network.specs.Refusals.{Row, row, first_refusal}
 use Rattle.network.specs.Laying.{unless, pair_rows, letter_rows}
 use Rattle.network.specs.Letters.{class_of}

@@ -1,5 +1,5 @@
 -- The place of a pair's entry. Assumes nothing.
-use Rattle.std.proofs.Common.{◌≡◌, ℕ, ◌<◌, ◌≤◌, Bool, true, false, eqb, ◌⊎◌, List, length, get_or, is_some, Some, None, Option, sym, refl, ap, ◌∙◌, ap₂, ⊎_elim, arith, MatchOption}
+use Rattle.std.proofs.Common.{◌≡◌, ℕ, ◌<◌, ◌≤◌, true, false, eqb, ◌⊎◌, List, length, get_or, is_some, Some, None, Option, sym, ◌∙◌, ap₂, ⊎_elim, arith, MatchOption}
 use Rattle.std.proofs.lemmas.Bool.{and_parts, and_left, and_right, eqb-true, ne_eqb}
 use Rattle.network.specs.declared.link.Link.{Link}
 use Rattle.network.specs.declared.turn.Turn.{Turn}

@@ -2,7 +2,7 @@
 --     set_turn_refusal plan into out letter extra    the refusal of the change
 --     changed turns t                                the entries with t in the place of its pair's entry, or at their end
 --     with_set_turn plan into out letter extra       the plan after the change was made or refused
-use Rattle.std.specs.Prelude.{◌≡◌, ℕ, ◌<◌, Bool, true, false, cond, not, ◌&&◌, List, [], ◌∷◌, ◌++◌, length, get_or, Option, MatchOption, ◌==◌, slice_index_or, slice_set}
+use Rattle.std.specs.Prelude.{◌≡◌, ℕ, ◌<◌, true, false, cond, not, ◌&&◌, List, [], ◌∷◌, ◌++◌, length, get_or, Option, MatchOption, ◌==◌, slice_index_or, slice_set}
 use Rattle.std.specs.Option.{unwrap_or}
 use Rattle.network.specs.declared.turn.Turn.{Turn}
 use Rattle.network.specs.Plan.{Plan, no_turn, same_pair, has_entry}

@@ -6,7 +6,7 @@
 --     added ms n           the marks ms with link n put in
 --     marks_of ns          the marks of the set of the links that stand in ns
 --     both ms ns           how many links have both marks
-use Rattle.std.specs.Prelude.{ℕ, zero, suc, ◌+◌, ◌/◌, ◌%◌, Bool, true, false, cond, ◌&&◌, List, [], ◌∷◌, set, replicate, fold, ◌==◌, slice_set}
+use Rattle.std.specs.Prelude.{ℕ, zero, suc, ◌+◌, ◌/◌, ◌%◌, Bool, true, false, cond, ◌&&◌, List, [], ◌∷◌, replicate, fold, ◌==◌, slice_set}
 use Rattle.std.specs.List.{flat_map}
 use Rattle.network.specs.declared.linkset.LinkSet.{LinkSet}
 

@@ -1,3 +1,5 @@
+#![tactic(auto)]
+
 mod changing;
 mod draft;
 mod laying;

@@ -1,4 +1,6 @@
 // Answers lines of commands about the map in the file map.img, with one reply for each line.
+#![tactic(auto)]
+
 mod mapfile;
 mod session;
 mod talk;

@@ -1,5 +1,5 @@
 -- The conditions of a route, and the tests of them. Assumes nothing.
-use Rattle.std.proofs.Common.{◌≡◌, ℕ, Bool, true, not, ◌||◌, eqb, leb, List, [], ◌∷◌, length, sym, refl, subst, ⊎_elim}
+use Rattle.std.proofs.Common.{◌≡◌, ℕ, true, not, eqb, leb, List, [], ◌∷◌, length, sym, subst, ⊎_elim}
 use Rattle.std.specs.List.{ContainsAt as Has}
 use Rattle.std.proofs.lemmas.Bool.{and_parts, and_from, or_cases, or_left, or_right, not-true, not_from_false, leb-true, le-leb, eqb-true, eq-eqb, eqb-false, ne_eqb, false≢true}
 use Rattle.network.specs.Plan.{link, laid}

@@ -1,5 +1,5 @@
 -- The test of a route decides the definition. Assumes nothing.
-use Rattle.std.proofs.Common.{◌≡◌, ℕ, zero, suc, ◌+◌, ◌-◌, ◌<◌, ◌≤◌, Bool, true, false, cond, not, ◌&&◌, eqb, List, [], ◌∷◌, ◌++◌, length, take, drop, replicate, sym, refl, ap, ◌∙◌, subst, ap₂, ⊎_elim, arith, length-drop}
+use Rattle.std.proofs.Common.{◌≡◌, ℕ, zero, suc, ◌+◌, ◌-◌, ◌≤◌, Bool, true, false, cond, not, ◌&&◌, eqb, List, [], ◌∷◌, ◌++◌, length, take, drop, replicate, sym, refl, ap, ◌∙◌, subst, ap₂, ⊎_elim, arith, length-drop}
 use mathlib.Core.Bool.{beq}
 use lib.ListN.{length-replicate}
 use Rattle.std.specs.List.{ContainsAt as Has, prefix_len, AllByRecursion as All}
@@ -7,7 +7,7 @@ use Rattle.std.proofs.ByRecursion.{All-weaker, all-has, has_push, has_append_lef
 use Rattle.std.proofs.lemmas.List.{take_at, drop_at, take-append-drop, length-take-le}
 use Rattle.std.proofs.lemmas.Bool.{and_parts, and_from, not-true, not_from_false, eqb-true, eq-eqb, ne_eqb, false≢true, cases_Bool, both_ways}
 use Rattle.network.specs.Plan.{link}
-use Rattle.network.specs.Roads.{Roads, Passable, Joins}
+use Rattle.network.specs.Roads.{Roads, Passable}
 use Rattle.network.specs.Shared.{Once, stands_in}
 use Rattle.routing.specs.Enumeration.{passable, joins, starts_at}
 use Rattle.routing.specs.Route.{Joined, last_of, Simple}

@@ -2,7 +2,7 @@
 --     Follows roads next r            the first link of r, if it has one, passes `next`, and each other one joins the one before it
 --     Beginning roads next links r    r so follows, and has different links out of `links`
 --     with_first roads k links b      the beginnings of which b is the first link
-use Rattle.std.proofs.Common.{◌≡◌, ℕ, zero, suc, ◌+◌, ◌<◌, ◌≤◌, Bool, true, not, eqb, List, [], ◌∷◌, map, length, filter, sym, refl, subst, ⊎_elim, arith}
+use Rattle.std.proofs.Common.{◌≡◌, ℕ, zero, suc, ◌<◌, ◌≤◌, Bool, true, not, eqb, List, [], ◌∷◌, map, length, filter, sym, refl, subst, ⊎_elim, arith}
 use Rattle.std.specs.List.{ContainsAt as Has, AllByRecursion as All}
 use Rattle.std.proofs.ByRecursion.{All-weaker, All-map, all-has}
 use Rattle.std.proofs.lemmas.List.Filters.{length-filter_both}

@@ -1,5 +1,5 @@
 -- How many links a simple route can have. Assumes nothing.
-use Rattle.std.proofs.Common.{◌≡◌, ℕ, zero, suc, ◌<◌, ◌≤◌, List, [], ◌∷◌, length, sym, refl, ap, ◌∙◌, arith}
+use Rattle.std.proofs.Common.{◌≡◌, ℕ, zero, suc, ◌≤◌, List, [], ◌∷◌, length, sym, refl, ap, arith}
 use Rattle.std.specs.List.{ContainsAt as Has, AllByRecursion as All}
 use Rattle.std.proofs.ByRecursion.{All-weaker, all-has}
 use Rattle.network.specs.Shared.{Once}
@@ -8,7 +8,7 @@ use Rattle.measure.proofs.Sums.{no_stop}
 use Rattle.routing.specs.Route.{Simple}
 use Rattle.routing.specs.Enumeration.{numbers, without}
 use Rattle.routing.specs.Unstopped.{RoutesUnstopped}
-use Rattle.routing.proofs.Members.{all_from_has, has_later}
+use Rattle.routing.proofs.Members.{all_from_has}
 use Rattle.routing.proofs.Exactness.{has_numbers, has_without, without_shorter}
 
 -- different links out of some links are no more than these

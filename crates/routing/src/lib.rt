@@ -1,4 +1,6 @@
 // Routes over a network.
+#![tactic(auto)]
+
 ghost use Rattle.routing.specs.Enumeration.{Exact};
 ghost use Rattle.routing.specs.Unstopped.{RoutesUnstopped};
 

@@ -1,3 +1,5 @@
+#![tactic(auto)]
+
 mod causes;
 mod fault;
 mod lines;

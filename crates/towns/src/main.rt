@@ -1,4 +1,6 @@
 // Asks small towns for their routes under each measure, and prints what the routes cost, in the order in which they come.
+#![tactic(auto)]
+
 mod asking;
 mod barred;
 mod equal;

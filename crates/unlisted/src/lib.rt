@@ -1,4 +1,5 @@
 // The cheapest simple route of a question that its book does not list.
+#![tactic(auto)]
 
 mod bests;
 mod cheapest;

@@ -3,17 +3,16 @@
 --     pairwise p xs   Pairwise as a test
 --     some_pass p xs  an element passes p
 --     Computes f      what the checker computes of a figure
-use Rattle.std.proofs.Common.{◌≡◌, ℕ, ◌≤◌, Bool, true, false, not, ◌&&◌, ◌||◌, eqb, leb, List, [], ◌∷◌, map, filter, refl, subst, ⊎_elim}
+use Rattle.std.proofs.Common.{◌≡◌, ℕ, ◌≤◌, Bool, true, false, not, ◌&&◌, ◌||◌, eqb, leb, List, [], ◌∷◌, filter, subst, ⊎_elim}
 use Rattle.std.specs.List.{ContainsAt as Has, AllByRecursion as All, list_all}
 use Rattle.std.specs.Str.{bytes_eq}
 use Rattle.std.proofs.ByRecursion.{all-has}
 use Rattle.std.proofs.lemmas.Slice.Eq.{bytes_eq-Decides}
 use Rattle.std.proofs.lemmas.Bool.{and_parts, or_cases, not-true, not_from_false, both_ways, cases_Bool, leb-true, eqb-true, false≢true}
 use Rattle.network.specs.Roads.{Roads}
-use Rattle.image.specs.Image.{encode, decode, holds}
 use Rattle.measure.specs.Ranks.{Ranks}
 use Rattle.measure.specs.Cost.{cost}
-use Rattle.routing.specs.Route.{Simple, Avoiding, Least}
+use Rattle.routing.specs.Route.{Avoiding, Least}
 use Rattle.network.specs.Shared.{stands_in}
 use Rattle.routing.specs.Enumeration.{all_simple}
 use Rattle.routing.proofs.Members.{has_first, has_later, has_kept, kept_has}

@@ -1,4 +1,6 @@
 // The worked figures of the documents, as facts about the definitions.
+#![tactic(auto)]
+
 ghost use Rattle.std.specs.List.{AllByRecursion as All};
 ghost use Rattle.worked.specs.Figures.{Stands, figures};
 

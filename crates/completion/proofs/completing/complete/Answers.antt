@@ -1,15 +1,11 @@
-use Rattle.std.proofs.Common.{◌≡◌, ℕ, ◌+◌, ◌-◌, ◌<◌, ◌≤◌, Bool, List, length, Option, sym, refl, ap, ◌∙◌, subst, arith}
+use Rattle.std.proofs.Common.{ℕ, ◌+◌, length, sym, refl, ap, ◌∙◌, subst, arith}
 use Rattle.std.specs.Option.{option_map}
 use Rattle.network.specs.Marks.{marks}
-use Rattle.network.specs.Plan.{Plan}
-use Rattle.network.specs.Roads.{Roads}
 use Rattle.network.proofs.Laws.{links_few}
-use Rattle.measure.specs.Ranks.{Ranks}
-use Rattle.measure.specs.Cost.{cost}
 use Rattle.routing.specs.Lent.{lent}
 use Rattle.completion.specs.Growth.{Inv, NoneSought}
 use Rattle.completion.specs.Onward.{Setting, graph, too_dear}
-use Rattle.completion.specs.Completion.{outset, end_of}
+use Rattle.completion.specs.Completion.{outset}
 use Rattle.completion.specs.View.{view, tally, EndsBest}
 use Rattle.completion.proofs.Graphs.{graph_size}
 use Rattle.completion.proofs.Cheapest.{dear_from, none_below, depth_view, room_for, all_threaded, cheapest, same_setting}

@@ -1,4 +1,4 @@
-use Rattle.std.proofs.Common.{◌≡◌, ℕ, ◌-◌, ◌<◌, List, length, get_or, sym, ap, ◌∙◌, arith}
+use Rattle.std.proofs.Common.{ℕ, ◌-◌, List, length, get_or, sym, ap, ◌∙◌, arith}
 use Rattle.network.specs.declared.link.Link.{Link}
 use Rattle.network.specs.Plan.{link, no_link}
 use Rattle.routing.specs.Lent.{lent}

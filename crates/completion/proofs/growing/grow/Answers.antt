@@ -1,10 +1,8 @@
-use Rattle.std.proofs.Common.{◌≡◌, ℕ, ◌+◌, ◌-◌, ◌<◌, ◌≤◌, Bool, true, false, List, map, length, get_or, count_by, sym, refl, ap, ◌∙◌, subst, arith}
+use Rattle.std.proofs.Common.{◌≡◌, ◌-◌, ◌≤◌, true, false, List, map, length, get_or, count_by, sym, refl, ap, ◌∙◌, subst, arith}
 use Rattle.network.specs.declared.link.Link.{Link}
 use Rattle.network.specs.declared.linkset.LinkSet.{LinkSet}
-use Rattle.network.specs.Laid.{plan}
 use Rattle.network.specs.Marks.{marks, marked}
 use Rattle.network.specs.Plan.{link, no_link}
-use Rattle.network.proofs.Laws.{links_few}
 use Rattle.frontier.specs.declared.frontier.Frontier.{Frontier}
 use Rattle.frontier.specs.Tournament.{Sound, Changed}
 use Rattle.completion.specs.Onward.{setting}

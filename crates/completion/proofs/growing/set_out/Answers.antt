@@ -1,4 +1,4 @@
-use Rattle.std.proofs.Common.{◌≡◌, ℕ, ◌+◌, ◌-◌, ◌<◌, ◌≤◌, sym, refl, ap, ◌∙◌, subst, arith}
+use Rattle.std.proofs.Common.{ℕ, sym, refl, subst, arith}
 use Rattle.completion.specs.Growth.{Inv}
 use Rattle.completion.specs.Onward.{setting, graph}
 use Rattle.completion.specs.View.{view}

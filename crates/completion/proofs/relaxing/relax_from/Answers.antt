@@ -1,4 +1,4 @@
-use Rattle.std.proofs.Common.{◌≡◌, ℕ, ◌+◌, ◌-◌, ◌<◌, ◌≤◌, sym, refl, ap, ◌∙◌, arith}
+use Rattle.std.proofs.Common.{◌+◌, refl, ◌∙◌, arith}
 use Rattle.network.specs.Laid.{plan}
 use Rattle.completion.specs.Onward.{setting}
 use Rattle.completion.proofs.Graphs.{graph_laws}

@@ -1,4 +1,4 @@
-use Rattle.std.proofs.Common.{◌≡◌, ℕ, ◌+◌, ◌-◌, ◌<◌, ◌≤◌, sym, ap, ◌∙◌, subst, inr, arith}
+use Rattle.std.proofs.Common.{ℕ, ◌+◌, ◌<◌, ◌≤◌, ap, subst, inr, arith}
 use Rattle.network.proofs.Laws.{links_few}
 use Rattle.completion.specs.Growth.{Put}
 use Rattle.completion.specs.View.{view}

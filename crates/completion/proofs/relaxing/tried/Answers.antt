@@ -1,7 +1,7 @@
-use Rattle.std.proofs.Common.{◌≡◌, ℕ, ◌-◌, ◌<◌, ◌≤◌, Bool, true, false, ◌∷◌, length, get_or, sym, ap, ◌∙◌, arith}
-use Rattle.std.proofs.lemmas.Bool.{ltb-true, ltb-false, both_ways}
+use Rattle.std.proofs.Common.{ℕ, ◌<◌, sym, ap, ◌∙◌, arith}
+use Rattle.std.proofs.lemmas.Bool.{ltb-true, ltb-false}
 use Rattle.network.proofs.Laws.{links_few}
-use Rattle.completion.specs.Onward.{setting, graph, too_dear, open_turn}
+use Rattle.completion.specs.Onward.{setting, open_turn}
 use Rattle.completion.specs.View.{view}
 use Rattle.completion.proofs.Views.{label_at, depth_at, settled_at}
 use Rattle.completion.proofs.Tries.{fine_blocked, fine_settled, fine_barred, on_is, fine_dear, fine_known, better}

@@ -1,4 +1,4 @@
-use Rattle.std.proofs.Common.{List, [], ◌∷◌, ◌++◌, length, arith, length-append}
+use Rattle.std.proofs.Common.{[], ◌∷◌, ◌++◌, arith, length-append}
 use Rattle.std.specs.List.{flat_map}
 use Rattle.measure.proofs.Puts.{put_next}
 use Rattle.console.specs.Replies.{after_blank}

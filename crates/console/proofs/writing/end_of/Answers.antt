@@ -1,4 +1,4 @@
-use Rattle.std.proofs.Common.{◌≡◌, ◌+◌, ◌<◌, length, decimal, ap, ◌∙◌, arith}
+use Rattle.std.proofs.Common.{◌+◌, length, decimal, ap, ◌∙◌, arith}
 use Rattle.std.specs.List.{flat_map}
 use Rattle.std.proofs.lemmas.List.{take_all}
 use Rattle.console.specs.Replies.{after_blank}

@@ -1,4 +1,4 @@
-use Rattle.std.proofs.Common.{◌≡◌, ℕ, ◌+◌, ◌-◌, ◌*◌, ◌<◌, Bool, true, false, List, length, drop, is_some, Option, sym, ap, ◌∙◌, ap₂, arith, length-drop}
+use Rattle.std.proofs.Common.{◌≡◌, ℕ, ◌+◌, ◌-◌, true, false, List, length, drop, is_some, sym, ap, ◌∙◌, ap₂, arith, length-drop}
 use Rattle.network.specs.declared.record.Record.{Record}
 use Rattle.network.specs.Plan.{Plan}
 use Rattle.network.specs.Laid.{drafted}

@@ -1,4 +1,4 @@
-use Rattle.std.proofs.Common.{◌≡◌, ℕ, ◌+◌, ◌*◌, sym, ap, ◌∙◌}
+use Rattle.std.proofs.Common.{ℕ, ◌+◌, ◌*◌, sym, ap, ◌∙◌}
 use Rattle.image.specs.declared.entry.ContentsEntry.{ContentsEntry}
 use Rattle.image.proofs.Contents.{contents_are, contents_pass, length_wrong, first_wrong, second_wrong}
 use Rattle.image.proofs.reading.read_contents.Goals.{else-is-via-then-is+then-is-2+else-bodies-links, else-is-via-then-is+else-is-2, else-is-via-else-is}

@@ -1,4 +1,4 @@
-use Rattle.std.proofs.Common.{◌-◌, ◌≤◌, length, refl, arith, rules, ltb-false}
+use Rattle.std.proofs.Common.{◌≤◌, length, refl, arith, rules, ltb-false}
 use Rattle.std.proofs.lemmas.List.{take_rest}
 use Rattle.image.proofs.reading.read_entry.Goals as goal
 

@@ -1,8 +1,7 @@
-use Rattle.std.proofs.Common.{◌≡◌, ℕ, ◌≤◌, true, false, List, length, take, drop, replicate, sym, ap, ◌∙◌, subst, arith}
+use Rattle.std.proofs.Common.{◌≡◌, ℕ, ◌≤◌, true, false, length, take, drop, sym, ap, ◌∙◌, arith}
 use Rattle.std.specs.List.{prefix_len}
 use Rattle.std.proofs.lemmas.List.Sums.{prefix_len-le-length}
 use Rattle.std.proofs.lemmas.Bool.{both_ways}
-use Rattle.routing.specs.Route.{Simple}
 use Rattle.routing.specs.Lent.{lent, route_test, zero_so}
 use Rattle.routing.proofs.Decides.{test_simple, simple_passes, all_zeros, held, holds_front}
 use Rattle.routing.proofs.places.route_in.Goals.{else-front-rest-via-then-front-rest+else-is_route, else-front-rest-via-else-front-rest}

@@ -1,6 +1,5 @@
 use Rattle.std.proofs.Common.{sym, refl, ap, ◌∙◌, inl, inr}
 use Rattle.std.proofs.lemmas.Bool.{not-true, not-false}
-use Rattle.measure.specs.Cost.{cost}
 use Rattle.routing.specs.Lent.{lent}
 use Rattle.completion.specs.Onward.{too_dear}
 use Rattle.unlisted.specs.Best.{price}

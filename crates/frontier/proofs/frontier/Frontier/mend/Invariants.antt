@@ -1,4 +1,4 @@
-use Rattle.std.proofs.Common.{◌≡◌, ℕ, ◌<◌, ◌≤◌, map, length}
+use Rattle.std.proofs.Common.{◌≡◌, ℕ, ◌<◌, ◌≤◌, map}
 use Rattle.frontier.specs.Tournament.{held, Mending}
 use Rattle.frontier.proofs.frontier.Frontier.mend.Given as goal
 

@@ -1,4 +1,4 @@
-use Rattle.std.proofs.Common.{◌-◌, map, set, arith, length-set}
+use Rattle.std.proofs.Common.{◌-◌, map, set, length-set}
 use Rattle.frontier.proofs.Frontiers.{sound_while_out}
 use Rattle.frontier.proofs.Labels.{label_kept}
 use Rattle.frontier.proofs.frontier.Frontier.relabel.Goals as goal

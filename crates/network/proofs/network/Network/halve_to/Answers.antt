@@ -1,4 +1,4 @@
-use Rattle.std.proofs.Common.{◌≡◌, ℕ, ◌+◌, ◌-◌, ◌/◌, ◌<◌, ◌≤◌, List, length, get_or, sym, subst, arith}
+use Rattle.std.proofs.Common.{◌+◌, ◌-◌, ◌/◌, ◌<◌, ◌≤◌, List, length, get_or, sym, subst, arith}
 use Rattle.network.specs.declared.link.Link.{Link}
 use Rattle.network.specs.Plan.{no_link, StartsRise}
 use Rattle.network.proofs.Laws.{starts_rise_to}

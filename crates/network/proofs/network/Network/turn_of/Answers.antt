@@ -1,4 +1,4 @@
-use Rattle.std.proofs.Common.{◌≡◌, ℕ, sym, ◌∙◌, ap₂}
+use Rattle.std.proofs.Common.{ℕ, sym, ◌∙◌, ap₂}
 use Rattle.network.specs.Laid.{plan}
 use Rattle.network.specs.Roads.{turn}
 use Rattle.network.proofs.Entries.{no_place_has}

@@ -1,4 +1,4 @@
-use Rattle.std.proofs.Common.{◌≡◌, ℕ, List, sym, ap, ◌∙◌, subst, length-set}
+use Rattle.std.proofs.Common.{List, sym, subst, length-set}
 use Rattle.network.specs.declared.turn.Turn.{Turn}
 use Rattle.network.specs.Tables.{items}
 use Rattle.network.specs.Changing.{changed_at}

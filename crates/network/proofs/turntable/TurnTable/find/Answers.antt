@@ -1,4 +1,4 @@
-use Rattle.std.proofs.Common.{◌≡◌, ℕ, suc, ◌-◌, ◌≤◌, sym, ap, ◌∙◌, arith}
+use Rattle.std.proofs.Common.{◌≡◌, ℕ, suc, ◌-◌, ◌≤◌, ap, ◌∙◌, arith}
 use Rattle.network.specs.declared.turn.Turn.{Turn}
 use Rattle.network.specs.Tables.{items}
 use Rattle.network.specs.Index.{entry}

@@ -1,4 +1,4 @@
-use Rattle.std.proofs.Common.{◌≡◌, ℕ, ◌+◌, [], ◌∷◌, ◌++◌, get_or, set, sym, ◌∙◌, subst, length-set}
+use Rattle.std.proofs.Common.{ℕ, ◌+◌, get_or, set, sym, ◌∙◌, subst, length-set}
 use Rattle.network.specs.Tables.{items}
 use Rattle.network.proofs.Chains.{Indexed, indexed_push}
 use Rattle.network.proofs.turntable.TurnTable.push.Goals as goal
@@ -14,5 +14,10 @@ invariant_of-self c =
     record {
       headed = length-set s.heads t.into _ ∙ s.headed;
       chained = length-set s.nexts _ (get_or s.heads t.into 0) ∙ s.chained;
-      head = x.0; held = x.1.0; latest = x.1.1.0; back = x.1.1.1.0; kept = x.1.1.1.1.0; between = x.1.1.1.1.1.0;
+      head = x.0;
+      held = x.1.0;
+      latest = x.1.1.0;
+      back = x.1.1.1.0;
+      kept = x.1.1.1.1.0;
+      between = x.1.1.1.1.1.0;
     }
