@@ -1,6 +1,6 @@
 -- The ways of a beginning's setting are its completions. Assumes nothing.
 use Rattle.std.proofs.Common.{◌≡◌, ℕ, zero, suc, ◌<◌, Bool, true, false, not, ◌||◌, eqb, leb, List, [], ◌∷◌, ◌++◌, length, Option, sym, refl, ap, ◌∙◌, subst, ⊎_elim, arith}
-use Rattle.std.specs.List.{ContainsAt as Has, AllByRecursion as All}
+use Rattle.std.specs.List.{ContainsAt as Has, AllByRecursion}
 use Rattle.std.proofs.ByRecursion.{All-append}
 use Rattle.std.proofs.lemmas.List.{append-nil}
 use Rattle.std.proofs.lemmas.Bool.{and_parts, and_from, or_parts, or_from, cases_Bool, both_ways, le-leb, not-true, not_from_false, eqb-true, eq-eqb}
@@ -64,7 +64,7 @@ module _ (m : Ranks) (roads : Roads) (from to : ℕ) (p : List ℕ) (banned forb
       (and_from (not (has banned b)) _ (not_from_false (has banned b) (not_banned b f))
       (and_from (eqb (link roads.plan.links b).start (link roads.plan.links (suc a)).end) _ (eq-eqb _ _ (sym (eqb-true _ _ t.0))) t.1))
 
-  pub joined_fits : (bs : List ℕ) (a : ℕ) → 0 < a → ways.Joined g a bs → All Fits bs × Joined roads a bs
+  pub joined_fits : (bs : List ℕ) (a : ℕ) → 0 < a → ways.Joined g a bs → AllByRecursion Fits bs × Joined roads a bs
   joined_fits [] a h j = (tt, tt)
   joined_fits (b ∷ bs) zero h j = absurd (omega arith)
   joined_fits (b ∷ bs) (suc a) h j =
@@ -72,7 +72,7 @@ module _ (m : Ranks) (roads : Roads) (from to : ℕ) (p : List ℕ) (banned forb
       let rest = joined_fits bs b (omega (arith, n.0.0.0.0)) j.1 in
       ((n.0, rest.0), (n.1, rest.1))
 
-  pub fits_joined : (bs : List ℕ) (a : ℕ) → 0 < a → All Fits bs → Joined roads a bs → ways.Joined g a bs
+  pub fits_joined : (bs : List ℕ) (a : ℕ) → 0 < a → AllByRecursion Fits bs → Joined roads a bs → ways.Joined g a bs
   fits_joined [] a h f j = tt
   fits_joined (b ∷ bs) zero h f j = absurd (omega arith)
   fits_joined (b ∷ bs) (suc a) h f j = (fits_next a b f.0 j.0, fits_joined bs b (omega (arith, f.0.0.0.0)) f.1 j.1)
@@ -97,7 +97,7 @@ module _ (m : Ranks) (roads : Roads) (from to : ℕ) (p : List ℕ) (banned forb
       (and_from (not (has banned b || has forbidden b)) _ (not_from_false (has banned b || has forbidden b) (or_from (has banned b) (has forbidden b) (not_banned b f) allowed))
       (and_from (eqb (link roads.plan.links b).start (end_of roads from p)) _ (eq-eqb _ _ o.0) o.1))
 
-  cost_joined : (bs : List ℕ) (c a : ℕ) → 0 < a → All Fits bs → ways.cost_on g c a bs ≡ onward m roads.plan c a bs
+  cost_joined : (bs : List ℕ) (c a : ℕ) → 0 < a → AllByRecursion Fits bs → ways.cost_on g c a bs ≡ onward m roads.plan c a bs
   unfolding graph onward
   cost_joined [] c a h f = refl
   cost_joined (b ∷ bs) c zero h f = absurd (omega arith)
@@ -119,7 +119,7 @@ step_from_is : (m : Ranks) (plan : Plan) (c a b : ℕ) → 0 < a → step_from m
 step_from_is m plan c zero b h = absurd (omega arith)
 step_from_is m plan c (suc a) b h = refl
 
-last_positive : (roads : Roads) (qs : List ℕ) (a : ℕ) → All (Passable roads) (a ∷ qs) → 0 < last_of a qs
+last_positive : (roads : Roads) (qs : List ℕ) (a : ℕ) → AllByRecursion (Passable roads) (a ∷ qs) → 0 < last_of a qs
 last_positive roads [] a h = omega (arith, h.0.0.0)
 last_positive roads (b ∷ qs) a h = last_positive roads qs b h.1
 
@@ -141,7 +141,7 @@ module _ (m : Ranks) (roads : Roads) (from to : ℕ) (banned forbidden : List Bo
             ∙ cost_joined m roads from to [] banned forbidden bound bans bs _ b (omega (arith, f.0.0.0.0)) j.0,
       )
     where
-      all_of : (cs : List ℕ) → All (λ c. Passable roads c × (Has [] c → ⊥)) cs → All (Passable roads) cs
+      all_of : (cs : List ℕ) → AllByRecursion (λ c. Passable roads c × (Has [] c → ⊥)) cs → AllByRecursion (Passable roads) cs
       all_of [] h = tt
       all_of (c ∷ cs) h = (h.0.0, all_of cs h.1)
   way_completes (a ∷ qs) bans start (b ∷ bs) w =
@@ -168,15 +168,15 @@ module _ (m : Ranks) (roads : Roads) (from to : ℕ) (banned forbidden : List Bo
             ∙ sym (onward_append m roads.plan qs _ a (b ∷ bs)),
       )
     where
-      open_of : (cs : List ℕ) → All (λ c. Passable roads c × (Has (a ∷ qs) c → ⊥)) cs → All (Passable roads) cs
+      open_of : (cs : List ℕ) → AllByRecursion (λ c. Passable roads c × (Has (a ∷ qs) c → ⊥)) cs → AllByRecursion (Passable roads) cs
       open_of [] h = tt
       open_of (c ∷ cs) h = (h.0.0, open_of cs h.1)
 
-      apart_of : (cs : List ℕ) → All (λ c. Passable roads c × (Has (a ∷ qs) c → ⊥)) cs → Apart (a ∷ qs) cs
+      apart_of : (cs : List ℕ) → AllByRecursion (λ c. Passable roads c × (Has (a ∷ qs) c → ⊥)) cs → Apart (a ∷ qs) cs
       apart_of [] h = tt
       apart_of (c ∷ cs) h = (h.0.1, apart_of cs h.1)
 
-  fit_all : (p cs : List ℕ) → All (Passable roads) cs → Apart p cs → All (λ c. Passable roads c × (Has p c → ⊥)) cs
+  fit_all : (p cs : List ℕ) → AllByRecursion (Passable roads) cs → Apart p cs → AllByRecursion (λ c. Passable roads c × (Has p c → ⊥)) cs
   fit_all p [] h k = tt
   fit_all p (c ∷ cs) h k = ((h.0, k.0), fit_all p cs h.1 k.1)
 

@@ -1,6 +1,6 @@
 -- The end of a beginning. Assumes nothing.
 use Rattle.std.proofs.Common.{◌≡◌, ℕ, ◌-◌, ◌<◌, List, [], ◌∷◌, length, get_or, sym, refl, ◌∙◌, arith}
-use Rattle.std.specs.List.{AllByRecursion as All}
+use Rattle.std.specs.List.{AllByRecursion}
 use Rattle.network.specs.Plan.{link, Laid}
 use Rattle.network.specs.Roads.{Roads, Passable}
 use Rattle.routing.specs.Route.{last_of}
@@ -18,7 +18,7 @@ pub none_last : (bs : List ℕ) → length bs ≡ 0 → 0 ≡ last_of 0 bs
 none_last [] e = refl
 none_last (b ∷ bs) e = absurd (omega arith)
 
-last_laid : (roads : Roads) (qs : List ℕ) (a : ℕ) → All (Passable roads) (a ∷ qs) → Laid roads.plan.links (last_of a qs)
+last_laid : (roads : Roads) (qs : List ℕ) (a : ℕ) → AllByRecursion (Passable roads) (a ∷ qs) → Laid roads.plan.links (last_of a qs)
 last_laid roads [] a h = h.0.0
 last_laid roads (b ∷ qs) a h = last_laid roads qs b h.1
 

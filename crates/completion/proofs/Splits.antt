@@ -1,6 +1,6 @@
 -- Routes in two parts. Assumes nothing.
 use Rattle.std.proofs.Common.{◌≡◌, ℕ, ◌⊎◌, List, [], ◌∷◌, ◌++◌, sym, refl, subst, inl, inr, ⊎_elim}
-use Rattle.std.specs.List.{ContainsAt as Has, AllByRecursion as All}
+use Rattle.std.specs.List.{ContainsAt as Has, AllByRecursion}
 use Rattle.std.proofs.ByRecursion.{all-has, has_append_left, has_append_right}
 use Rattle.network.specs.Plan.{Plan}
 use Rattle.network.specs.Roads.{Roads, Joins}
@@ -14,7 +14,7 @@ pub last_append : (qs : List ℕ) (a b : ℕ) (bs : List ℕ) → last_of a (qs 
 last_append [] a b bs = refl
 last_append (c ∷ qs) a b bs = last_append qs c b bs
 
-pub all_parts : {X : Type 0} (P : X → Type 0) (xs ys : List X) → All P (xs ++ ys) → All P xs × All P ys
+pub all_parts : {X : Type 0} (P : X → Type 0) (xs ys : List X) → AllByRecursion P (xs ++ ys) → AllByRecursion P xs × AllByRecursion P ys
 all_parts P [] ys h = (tt, h)
 all_parts P (x ∷ xs) ys h = let rest = all_parts P xs ys h.1 in ((h.0, rest.0), rest.1)
 
@@ -28,7 +28,7 @@ has_append_cases {X} (z ∷ xs) ys x h =
 
 -- none of the one list stands in the other
 abbrev pub Apart : (xs ys : List ℕ) → Type 0
-Apart xs ys = All (λ y. Has xs y → ⊥) ys
+Apart xs ys = AllByRecursion (λ y. Has xs y → ⊥) ys
 
 pub once_parts : (xs ys : List ℕ) → Once (xs ++ ys) → Once xs × Once ys × Apart xs ys
 once_parts [] ys o = (tt, o, all_from_has (λ y. Has [] y → ⊥) ys (λ y h k. has_none y k))

@@ -6,7 +6,7 @@
 --     outset, Bans                  the setting of the quest
 use Rattle.std.specs.Prelude.{◌≡◌, ℕ, ◌≤◌, Bool, true, false, ◌||◌, List, [], ◌∷◌, ◌++◌, length, take, Option, MatchOption}
 use Rattle.std.specs.Option.{option_map}
-use Rattle.std.specs.List.{AllByRecursion as All}
+use Rattle.std.specs.List.{AllByRecursion}
 use Rattle.network.specs.Plan.{link, Laid}
 use Rattle.network.specs.Roads.{Roads, Passable, closed}
 use Rattle.network.specs.Shared.{Once, stands_in}
@@ -20,7 +20,7 @@ use Rattle.completion.specs.Onward.{Setting, has, too_dear}
 abbrev pub Begins : Roads → (from : ℕ) → List ℕ → Type 0
 Begins roads from [] = Unit {0}
 Begins roads from (a ∷ bs) =
-    ((link roads.plan.links a).start ≡ from) × Joined roads a bs × All (Passable roads) (a ∷ bs) × Once (a ∷ bs)
+    ((link roads.plan.links a).start ≡ from) × Joined roads a bs × AllByRecursion (Passable roads) (a ∷ bs) × Once (a ∷ bs)
 
 abbrev pub end_of : Roads → (from : ℕ) → List ℕ → ℕ
 end_of roads from [] = from

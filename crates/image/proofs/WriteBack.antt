@@ -1,6 +1,6 @@
 -- The image of a lawful plan reads back as the plan. Assumes nothing.
 use Rattle.std.proofs.Common.{◌≡◌, ℕ, zero, suc, ◌+◌, ◌*◌, ◌<◌, ◌≤◌, Bool, true, false, cond, not, ◌&&◌, eqb, ltb, leb, List, [], ◌∷◌, ◌++◌, map, length, get_or, drop, is_some, Some, None, Option, unwrap_or, sym, refl, ap, ◌∙◌, subst, ap₂, append_assoc, arith, length-append}
-use Rattle.std.specs.List.{flat_map, AllByRecursion as All}
+use Rattle.std.specs.List.{flat_map, AllByRecursion}
 use Rattle.std.proofs.lemmas.Bool.{eq-eqb, ne_eqb, le-ltb, le-leb, and_from, or_from, not_from_true}
 use Rattle.std.proofs.lemmas.List.{append-nil, get_or_at, get_or_append_left}
 use Rattle.std.proofs.ByRecursion.{All-from_get_or}
@@ -52,7 +52,7 @@ turn_again t rest p q r =
     cc
 
 abbrev turns_fit : List Turn → Type 0
-turns_fit turns = All (λ t. (t.into ≤ 1024) × (t.out ≤ 1024) × (t.extra ≤ 1000000)) turns
+turns_fit turns = AllByRecursion (λ t. (t.into ≤ 1024) × (t.out ≤ 1024) × (t.extra ≤ 1000000)) turns
 
 turns_read : (turns : List Turn) (i links : ℕ) → links ≤ i → turns_fit turns
     → records_in i links (length turns) (flat_map record_bytes (map turn_record turns)) ≡ map turn_record turns
@@ -64,7 +64,7 @@ turns_read (t ∷ turns) i links h fit =
     (turn_comes i links (record_bytes (turn_record t) ++ bs) h ∙ turn_again t bs fit.0.0 fit.0.1 fit.0.2)
     (turns_read turns (i + 1) links (omega arith) fit.1)
 
-pub records_again : (ls : List Link) (turns : List Turn) (i links : ℕ) → i + length ls ≡ links → All LinkWithin ls → turns_fit turns
+pub records_again : (ls : List Link) (turns : List Turn) (i links : ℕ) → i + length ls ≡ links → AllByRecursion LinkWithin ls → turns_fit turns
     → records_in i links (length ls + length turns) (flat_map record_bytes (map link_record ls ++ map turn_record turns))
     ≡ map link_record ls ++ map turn_record turns
 unfolding records_in

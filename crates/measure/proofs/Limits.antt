@@ -2,14 +2,14 @@
 --     length_most    no link is longer than 1,000,000
 --     extra_most     no turn has an extra above 1,000,000
 use Rattle.std.proofs.Common.{ℕ, zero, suc, ◌≤◌, Bool, true, false, cond, List, [], ◌∷◌, get_or, arith}
-use Rattle.std.specs.List.{AllByRecursion as All}
+use Rattle.std.specs.List.{AllByRecursion}
 use Rattle.std.proofs.ByRecursion.{All-from_get_or}
 use Rattle.network.specs.declared.link.Link.{Link}
 use Rattle.network.specs.declared.turn.Turn.{Turn}
 use Rattle.network.specs.Plan.{LinksWithin, EntriesWithin, link, no_link, no_turn, same_pair}
 use Rattle.network.specs.Roads.{turn}
 
-length_at : (links : List Link) → All (λ l. l.length ≤ 1000000) links → (n : ℕ) → (get_or links n no_link).length ≤ 1000000
+length_at : (links : List Link) → AllByRecursion (λ l. l.length ≤ 1000000) links → (n : ℕ) → (get_or links n no_link).length ≤ 1000000
 length_at [] h n = omega arith
 length_at (l ∷ links) h zero = h.0
 length_at (l ∷ links) h (suc n) = length_at links h.1 n
@@ -23,7 +23,7 @@ either_most : (b : Bool) (t u : Turn) → t.extra ≤ 1000000 → u.extra ≤ 10
 either_most true t u p q = p
 either_most false t u p q = q
 
-extra_of : (turns : List Turn) → All (λ t. t.extra ≤ 1000000) turns → (a b : ℕ) → (turn turns a b).extra ≤ 1000000
+extra_of : (turns : List Turn) → AllByRecursion (λ t. t.extra ≤ 1000000) turns → (a b : ℕ) → (turn turns a b).extra ≤ 1000000
 unfolding turn
 extra_of [] h a b = omega arith
 extra_of (t ∷ turns) h a b = either_most (same_pair t a b) t (turn turns a b) h.0 (extra_of turns h.1 a b)

@@ -5,7 +5,7 @@
 --     Kept m l s               the state is the ledger's, the open question's book holds its routes, and each question is served
 --                              cheapest first
 use Rattle.std.proofs.Common.{◌≡◌, ℕ, ◌*◌, ◌<◌, ◌≤◌, true, false, List, [], ◌∷◌, length, IfSome, Some, None, Option, sym, refl, ap, ◌∙◌, subst, inl, inr, add-one, arith}
-use Rattle.std.specs.List.{ContainsAt as Has, AllByRecursion as All}
+use Rattle.std.specs.List.{ContainsAt as Has, AllByRecursion}
 use Rattle.std.proofs.ByRecursion.{All-weaker}
 use Rattle.network.specs.Roads.{Roads}
 use Rattle.network.specs.Laying.{unless}
@@ -45,7 +45,7 @@ Sound roads (Some q) = (q.roads ≡ roads) × BookHolds q.book q.handed
 pub record Kept (m : Ranks) (l : Ledger) (s : State) : Type 0 where
   pub state : s ≡ state_of l
   pub sound : Sound l.roads l.current
-  pub first : All (CheapestFirst m) (questions l)
+  pub first : AllByRecursion (CheapestFirst m) (questions l)
 
 abbrev pub AsLeft : Option (List ℕ) → List ℕ → Type 0
 AsLeft left book = IfSome left (λ b. book ≡ b)
@@ -58,7 +58,7 @@ pub lent_holds : (left : Option (List ℕ)) (book : List ℕ) (handed : List (Li
 lent_holds None book handed e u = subst (Stand book) (sym e) tt
 lent_holds (Some left) book handed st e = subst (λ (b : List ℕ). Stand b handed) (sym e) st
 
-all_counted : (q : Started) (rs : List (List ℕ)) → All (Of q) rs → All Counted rs
+all_counted : (q : Started) (rs : List (List ℕ)) → AllByRecursion (Of q) rs → AllByRecursion Counted rs
 all_counted q rs h = All-weaker (Of q) Counted (λ r. simple_counted q.roads q.from q.to r) rs h
 
 -- the routes listed in the book are those handed out
@@ -68,14 +68,14 @@ UnlistedOf q book r = books.Unlisted q.roads q.from q.to book (length q.handed) 
 pub not_handed : (q : Started) (book r : List ℕ) → Stand book q.handed → UnlistedOf q book r → Has q.handed r → ⊥
 not_handed q book r st u h = let p = place_of book q.handed r st h in u.1 p.0 p.1 p.2
 
-pub unlisted : (q : Started) (book r : List ℕ) → Stand book q.handed → All (Of q) q.handed → Of q r → (Has q.handed r → ⊥)
+pub unlisted : (q : Started) (book r : List ℕ) → Stand book q.handed → AllByRecursion (Of q) q.handed → Of q r → (Has q.handed r → ⊥)
     → UnlistedOf q book r
 unlisted q book r st simple o n = (
   o,
   λ i l h. n (handed_at book q.handed r i st (all_counted q q.handed simple) (simple_counted q.roads q.from q.to r o) l h),
 )
 
-all_both : {X : Type 0} (P Q : X → Type 0) (xs : List X) → All P xs → All Q xs → All (λ x. P x × Q x) xs
+all_both : {X : Type 0} (P Q : X → Type 0) (xs : List X) → AllByRecursion P xs → AllByRecursion Q xs → AllByRecursion (λ x. P x × Q x) xs
 all_both P Q [] p q = tt
 all_both P Q (x ∷ xs) p q = ((p.0, q.0), all_both P Q xs p.1 q.1)
 

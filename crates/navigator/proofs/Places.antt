@@ -2,7 +2,7 @@
 --     Counted r           none of the links of r is 0
 --     Stand book routes   the routes, the latest first, stand in the book's places from 0 on
 use Rattle.std.proofs.Common.{◌≡◌, ℕ, zero, suc, ◌+◌, ◌-◌, ◌*◌, ◌<◌, ◌≤◌, ◌⊎◌, List, [], ◌∷◌, ◌++◌, length, take, drop, replicate, sym, refl, ap, ◌∙◌, subst, inl, inr, arith}
-use Rattle.std.specs.List.{ContainsAt as Has, AllByRecursion as All}
+use Rattle.std.specs.List.{ContainsAt as Has, AllByRecursion}
 use Rattle.std.proofs.lemmas.List.{length-append, length-replicate, length-take-le, drop-take, take-take, take_at, drop_at}
 use Rattle.std.proofs.ByRecursion.{All-weaker}
 use Rattle.std.proofs.lemmas.Bool.{cases_eq}
@@ -14,7 +14,7 @@ use Rattle.routing.proofs.Members.{has_first, has_later, has_none, has_cases}
 use Rattle.navigator.specs.Listing.{filled, with_route, before_zero, route_at}
 
 abbrev pub Counted : List ℕ → Type 0
-Counted r = All (λ a. 1 ≤ a) r
+Counted r = AllByRecursion (λ a. 1 ≤ a) r
 
 pub simple_counted : (roads : Roads) (from to : ℕ) (r : List ℕ) → Simple roads from to r → Counted r
 simple_counted roads from to [] h = absurd h
@@ -92,7 +92,7 @@ place_of book (x ∷ rs) r st h = by_first (has_cases rs x r h) (place_of book r
     by_first (inl e) ih = (length rs, omega arith, subst (Holds (place book (length rs))) e st.0)
     by_first (inr l) ih = let p = ih l in (p.0, omega (arith, p.1), p.2)
 
-pub handed_at : (book : List ℕ) (rs : List (List ℕ)) (r : List ℕ) (i : ℕ) → Stand book rs → All Counted rs → Counted r → i < length rs
+pub handed_at : (book : List ℕ) (rs : List (List ℕ)) (r : List ℕ) (i : ℕ) → Stand book rs → AllByRecursion Counted rs → Counted r → i < length rs
     → Holds (place book i) r → Has rs r
 handed_at book [] r i st cs c l h = absurd (omega arith)
 handed_at book (x ∷ rs) r i st cs c l h = by_place (cases_eq i (length rs)) (handed_at book rs r i st.1 cs.1 c)

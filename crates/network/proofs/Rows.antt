@@ -1,6 +1,6 @@
 -- Rows of refusals: which one answers, and what a call leaves then. Assumes nothing.
 use Rattle.std.proofs.Common.{◌≡◌, ℕ, Bool, true, false, cond, List, [], ◌∷◌, ◌++◌, Some, None, Err, Option, Result, sym, refl, ap, ◌∙◌, arith}
-use Rattle.std.specs.List.{AllByRecursion as All}
+use Rattle.std.specs.List.{AllByRecursion}
 use Rattle.network.specs.declared.refusal.Refusal.{Refusal}
 use Rattle.network.specs.Refusals.{number, refusal_in, Row, first_refusal}
 use Rattle.network.specs.Laying.{unless}
@@ -50,6 +50,6 @@ passed_both (r ∷ rows) more e =
     (ap (λ (b : Bool). cond b (Some r.told) (first_refusal rows)) p.0 ∙ q.0, q.1)
 
 -- rows of which none applies
-pub none_applies : (rows : List Row) → All (λ r. r.applies ≡ false) rows → first_refusal rows ≡ None
+pub none_applies : (rows : List Row) → AllByRecursion (λ r. r.applies ≡ false) rows → first_refusal rows ≡ None
 none_applies [] all = refl
 none_applies (r ∷ rows) all = ap (λ (b : Bool). cond b (Some r.told) (first_refusal rows)) all.0 ∙ none_applies rows all.1

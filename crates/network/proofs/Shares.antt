@@ -1,6 +1,6 @@
 -- How many links the sets of two lists share. Assumes nothing.
 use Rattle.std.proofs.Common.{◌≡◌, ℕ, zero, suc, ◌+◌, ◌<◌, ◌≤◌, Bool, true, false, cond, eqb, List, [], ◌∷◌, length, get_or, set, replicate, fold, refl, ap, ◌∙◌, subst, arith}
-use Rattle.std.specs.List.{ContainsAt as Has, AllByRecursion as All}
+use Rattle.std.specs.List.{ContainsAt as Has, AllByRecursion}
 use Rattle.std.proofs.lemmas.List.{length-replicate}
 use Rattle.std.proofs.ByRecursion.{all-has}
 use Rattle.std.proofs.lemmas.Bool.{both_ways, ne_eqb, or_from}
@@ -34,14 +34,14 @@ both_added ms ns (suc x) h l e = both_set ms ns x (omega arith) e
 abbrev New : List Bool → List ℕ → Type 0
 New ms r = (n : ℕ) → Has r n → get_or (false ∷ ms) n false ≡ false
 
-new_after : (ms : List Bool) (a : ℕ) (r : List ℕ) → length ms ≡ 1024 → (Has r a → ⊥) → All LinkNumber r → New ms (a ∷ r) → New (added ms a) r
+new_after : (ms : List Bool) (a : ℕ) (r : List ℕ) → length ms ≡ 1024 → (Has r a → ⊥) → AllByRecursion LinkNumber r → New ms (a ∷ r) → New (added ms a) r
 new_after ms a r long once links new n has =
     let link = all-has LinkNumber r n links has in
     let apart : n ≡ a → ⊥ = λ e. once (subst (λ (x : ℕ). Has r x) e has) in
     added_has ms a n link.0 (omega (arith, link.1))
     ∙ or_from (eqb n a) (get_or (false ∷ ms) n false) (ne_eqb n a apart) (new n (suc has.0, omega (arith, has.1), has.2))
 
-both_all_added : (ms : List Bool) (r s : List ℕ) → length ms ≡ 1024 → Once r → All LinkNumber r → New ms r
+both_all_added : (ms : List Bool) (r s : List ℕ) → length ms ≡ 1024 → Once r → AllByRecursion LinkNumber r → New ms r
     → both (fold added ms r) (marks_of s) ≡ both ms (marks_of s) + shared r s
 both_all_added ms [] s long once links new = omega arith
 both_all_added ms (a ∷ r) s long once links new =

@@ -5,7 +5,7 @@
 --     LinkNumber n        a set can have link n
 --     SharedIsCounted    the links that a list of different links shares with another are those with both marks
 use Rattle.std.specs.Prelude.{◌≡◌, ℕ, ◌+◌, ◌≤◌, Bool, false, cond, ◌||◌, List, [], ◌∷◌, ◌==◌}
-use Rattle.std.specs.List.{ContainsAt as Has, AllByRecursion as All}
+use Rattle.std.specs.List.{ContainsAt as Has, AllByRecursion}
 use Rattle.network.specs.Marks.{marks_of, both}
 
 abbrev pub Once : List ℕ → Type 0
@@ -25,4 +25,4 @@ LinkNumber n = (1 ≤ n) × (n ≤ 1024)
 
 abbrev pub SharedIsCounted : Type 0
 SharedIsCounted =
-    (r s : List ℕ) → Once r → All LinkNumber r → both (marks_of r) (marks_of s) ≡ shared r s
+    (r s : List ℕ) → Once r → AllByRecursion LinkNumber r → both (marks_of r) (marks_of s) ≡ shared r s

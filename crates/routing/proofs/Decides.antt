@@ -2,7 +2,7 @@
 use Rattle.std.proofs.Common.{◌≡◌, ℕ, zero, suc, ◌+◌, ◌-◌, ◌≤◌, Bool, true, false, cond, not, ◌&&◌, eqb, List, [], ◌∷◌, ◌++◌, length, take, drop, replicate, sym, refl, ap, ◌∙◌, subst, ap₂, ⊎_elim, arith, length-drop}
 use mathlib.Core.Bool.{beq}
 use lib.ListN.{length-replicate}
-use Rattle.std.specs.List.{ContainsAt as Has, prefix_len, AllByRecursion as All}
+use Rattle.std.specs.List.{ContainsAt as Has, prefix_len, AllByRecursion}
 use Rattle.std.proofs.ByRecursion.{All-weaker, all-has, has_push, has_append_left, has_push_cases}
 use Rattle.std.proofs.lemmas.List.{take_at, drop_at, take-append-drop, length-take-le}
 use Rattle.std.proofs.lemmas.Bool.{and_parts, and_from, not-true, not_from_false, eqb-true, eq-eqb, ne_eqb, false≢true, cases_Bool, both_ways}
@@ -20,9 +20,9 @@ module _ (roads : Roads) (to : ℕ) where
   -- the links bs go on from a as a route to the node does, and none was seen before
   pub record Goes_on (a : ℕ) (seen bs : List ℕ) : Type 0 where
     pub joined : Joined roads a bs
-    pub open_links : All (Passable roads) bs
+    pub open_links : AllByRecursion (Passable roads) bs
     pub once : Once bs
-    pub new : All (λ b. Has seen b → ⊥) bs
+    pub new : AllByRecursion (λ b. Has seen b → ⊥) bs
     pub arrives : (link roads.plan.links (last_of a bs)).end ≡ to
 
   pub goes_on : (bs : List ℕ) (a : ℕ) (seen : List ℕ) → steps_test roads to a seen bs ≡ true → Goes_on a seen bs
@@ -50,7 +50,7 @@ module _ (roads : Roads) (to : ℕ) where
   goes_on_passes (b ∷ bs) a seen g =
       let fresh : stands_in b seen ≡ false =
       ⊎_elim (λ e. absurd (g.new.0 (stands_in_true b seen e))) (λ e. e) (cases_Bool (stands_in b seen)) in
-      let later : All (λ c. Has (seen ++ (b ∷ [])) c → ⊥) bs =
+      let later : AllByRecursion (λ c. Has (seen ++ (b ∷ [])) c → ⊥) bs =
       all_from_has (λ c. Has (seen ++ (b ∷ [])) c → ⊥) bs
       (λ c h k. ⊎_elim (λ s. all-has (λ d. Has seen d → ⊥) bs c g.new.1 h s) (λ e. g.once.0 (subst (Has bs) (sym e) h)) (has_push_cases seen b c k)) in
       let rest : Goes_on b (seen ++ (b ∷ [])) bs =
@@ -75,7 +75,7 @@ module _ (roads : Roads) (to : ℕ) where
   pub simple_passes : (from : ℕ) (r : List ℕ) → Simple roads from to r → route_test roads from to r ≡ true
   simple_passes from [] s = absurd s
   simple_passes from (a ∷ bs) s =
-      let new : All (λ c. Has (a ∷ []) c → ⊥) bs =
+      let new : AllByRecursion (λ c. Has (a ∷ []) c → ⊥) bs =
       all_from_has (λ c. Has (a ∷ []) c → ⊥) bs
       (λ c h k. ⊎_elim (λ n. has_none c n) (λ e. s.4.0 (subst (Has bs) (sym e) h)) (has_push_cases [] a c k)) in
       let g : Goes_on a (a ∷ []) bs =
@@ -97,7 +97,7 @@ pub all_zeros : (ps : List ℕ) → prefix_len (zero_so true) ps ≡ length ps �
 all_zeros [] e = refl
 all_zeros (p ∷ ps) e = zero_first p ps (all_zeros ps) (eqb p 0) refl e
 
-pub links_lead : (r : List ℕ) (n : ℕ) → All (λ a. 1 ≤ a) r → prefix_len (zero_so false) (r ++ replicate n 0) ≡ length r
+pub links_lead : (r : List ℕ) (n : ℕ) → AllByRecursion (λ a. 1 ≤ a) r → prefix_len (zero_so false) (r ++ replicate n 0) ≡ length r
 links_lead [] zero all = refl
 links_lead [] (suc n) all = refl
 links_lead (a ∷ r) n all =
@@ -114,7 +114,7 @@ held roads from to places (a ∷ bs) s h =
     let r = a ∷ bs in
     let n = length places - length r in
     let zeros = replicate n 0 in
-    let low : All (λ b. 1 ≤ b) r = All-weaker (Passable roads) (λ b. 1 ≤ b) (λ b p. p.0.0) r s.3 in
+    let low : AllByRecursion (λ b. 1 ≤ b) r = All-weaker (Passable roads) (λ b. 1 ≤ b) (λ b p. p.0.0) r s.3 in
     let count : prefix_len (zero_so false) places ≡ length r = ap (prefix_len (zero_so false)) h ∙ links_lead r n low in
     let behind : drop (prefix_len (zero_so false) places) places ≡ zeros =
     ap₂ (λ (k : ℕ) (ps : List ℕ). drop k ps) count h ∙ drop_at r zeros (length r) refl in (

@@ -3,7 +3,7 @@
 --     Beginning roads next links r    r so follows, and has different links out of `links`
 --     with_first roads k links b      the beginnings of which b is the first link
 use Rattle.std.proofs.Common.{◌≡◌, ℕ, zero, suc, ◌<◌, ◌≤◌, Bool, true, not, eqb, List, [], ◌∷◌, map, length, filter, sym, refl, subst, ⊎_elim, arith}
-use Rattle.std.specs.List.{ContainsAt as Has, AllByRecursion as All}
+use Rattle.std.specs.List.{ContainsAt as Has, AllByRecursion}
 use Rattle.std.proofs.ByRecursion.{All-weaker, All-map, all-has}
 use Rattle.std.proofs.lemmas.List.Filters.{length-filter_both}
 use Rattle.std.proofs.lemmas.Bool.{cases_eq, not-true, not_from_false, eqb-true, eq-eqb, eqb-false, ne_eqb, false≢true}
@@ -20,7 +20,7 @@ Follows roads next [] = Unit {0}
 Follows roads next (b ∷ bs) = (next b ≡ true) × Joined roads b bs
 
 abbrev pub Beginning : Roads → (ℕ → Bool) → List ℕ → List ℕ → Type 0
-Beginning roads next links r = Follows roads next r × All (Has links) r × Once r
+Beginning roads next links r = Follows roads next r × AllByRecursion (Has links) r × Once r
 
 pub has_numbers : (n a : ℕ) → 1 ≤ a → a ≤ n → Has (numbers n) a
 unfolding numbers
@@ -72,14 +72,14 @@ module _ (roads : Roads) where
   abbrev with_first : ℕ → List ℕ → ℕ → List (List ℕ)
   with_first k links b = map (λ bs. b ∷ bs) (beginnings roads k (without b links) (joins roads b))
 
-  pub all_beginnings : (k : ℕ) (links : List ℕ) (next : ℕ → Bool) → All (Beginning roads next links) (beginnings roads k links next)
+  pub all_beginnings : (k : ℕ) (links : List ℕ) (next : ℕ → Bool) → AllByRecursion (Beginning roads next links) (beginnings roads k links next)
   unfolding beginnings
   all_beginnings zero links next = ((tt, tt, tt), tt)
   all_beginnings (suc k) links next = (
     (tt, tt, tt),
     all_joined (Beginning roads next links)
         (with_first k links) (filter next links)
-        (all_from_has (λ b. All (Beginning roads next links) (with_first k links b)) (filter next links)
+        (all_from_has (λ b. AllByRecursion (Beginning roads next links) (with_first k links b)) (filter next links)
         (λ b h. All-map (Beginning roads next links) (λ bs. b ∷ bs) (beginnings roads k (without b links) (joins roads b))
         (All-weaker (Beginning roads (joins roads b) (without b links)) (λ bs. Beginning roads next links (b ∷ bs))
         (λ bs f. beginning_with_first next links b bs h f) (beginnings roads k (without b links) (joins roads b))

@@ -1,6 +1,6 @@
 -- How many links a simple route can have. Assumes nothing.
 use Rattle.std.proofs.Common.{◌≡◌, ℕ, zero, suc, ◌≤◌, List, [], ◌∷◌, length, sym, refl, ap, arith}
-use Rattle.std.specs.List.{ContainsAt as Has, AllByRecursion as All}
+use Rattle.std.specs.List.{ContainsAt as Has, AllByRecursion}
 use Rattle.std.proofs.ByRecursion.{All-weaker, all-has}
 use Rattle.network.specs.Shared.{Once}
 use Rattle.network.specs.Roads.{Roads, Passable}
@@ -12,10 +12,10 @@ use Rattle.routing.proofs.Members.{all_from_has}
 use Rattle.routing.proofs.Exactness.{has_numbers, has_without, without_shorter}
 
 -- different links out of some links are no more than these
-pub once_fits : (r links : List ℕ) → Once r → All (Has links) r → length r ≤ length links
+pub once_fits : (r links : List ℕ) → Once r → AllByRecursion (Has links) r → length r ≤ length links
 once_fits [] links once all = omega arith
 once_fits (b ∷ bs) links once all =
-    let rest : All (Has (without b links)) bs =
+    let rest : AllByRecursion (Has (without b links)) bs =
     all_from_has (Has (without b links)) bs
     (λ c h. has_without b links c (all-has (Has links) bs c all.1 h) (λ e. once.0 (rw (sym e) h))) in
     let fewer = once_fits bs (without b links) once.1 rest in
@@ -31,7 +31,7 @@ pub simple_length : (roads : Roads) (from to : ℕ) (r : List ℕ) → Simple ro
 simple_length roads from to [] s = absurd s
 simple_length roads from to (a ∷ bs) s =
     let n = length roads.plan.links in
-    let in_numbers : All (Has (numbers n)) (a ∷ bs) =
+    let in_numbers : AllByRecursion (Has (numbers n)) (a ∷ bs) =
     All-weaker (Passable roads) (Has (numbers n)) (λ m p. has_numbers n m p.0.0 p.0.1) (a ∷ bs) s.3 in
     let fits = once_fits (a ∷ bs) (numbers n) s.4 in_numbers in
     omega (arith, length_numbers n)

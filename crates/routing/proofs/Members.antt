@@ -1,6 +1,6 @@
 -- What a list has that is made of others. Assumes nothing.
 use Rattle.std.proofs.Common.{◌≡◌, ℕ, zero, suc, ◌<◌, Bool, true, ◌⊎◌, List, [], ◌∷◌, map, length, get_or, filter, sym, refl, ap, ◌∙◌, subst, inl, inr, ⊎_elim, arith}
-use Rattle.std.specs.List.{ContainsAt as Has, flat_map, AllByRecursion as All}
+use Rattle.std.specs.List.{ContainsAt as Has, flat_map, AllByRecursion}
 use Rattle.std.proofs.lemmas.List.{length-map, get_or-map}
 use Rattle.std.proofs.ByRecursion.{All-append, All-weaker, all-has, all_has_itself, has_append_left, has_append_right, all_kept_by, kept_by_passes}
 use Rattle.std.proofs.lemmas.Bool.{cond_both, both_ways}
@@ -22,7 +22,7 @@ has_cases {X} xs y x h = by h.0 h.1 h.2
     by (suc k) l is = inr (k, omega arith, is)
 
 -- what holds of whatever a list has holds of all of it
-pub all_from_has : {X : Type 0} (P : X → Type 0) (xs : List X) → ((x : X) → Has xs x → P x) → All P xs
+pub all_from_has : {X : Type 0} (P : X → Type 0) (xs : List X) → ((x : X) → Has xs x → P x) → AllByRecursion P xs
 all_from_has P xs h = All-weaker (Has xs) P h xs (all_has_itself xs)
 
 pub has_kept : {X : Type 0} (p : X → Bool) (xs : List X) (x : X) → Has xs x → p x ≡ true → Has (filter p xs) x
@@ -42,7 +42,7 @@ kept_has {X} p xs x h = (
 pub has_map : {X Y : Type 0} (f : X → Y) (xs : List X) (x : X) → Has xs x → Has (map f xs) (f x)
 has_map f xs x h = (h.0, rw length-map h.1, λ d. get_or-map f xs h.0 x d h.1 ∙ ap f (h.2 x))
 
-pub all_joined : {X Y : Type 0} (P : Y → Type 0) (f : X → List Y) (xs : List X) → All (λ x. All P (f x)) xs → All P (flat_map f xs)
+pub all_joined : {X Y : Type 0} (P : Y → Type 0) (f : X → List Y) (xs : List X) → AllByRecursion (λ x. AllByRecursion P (f x)) xs → AllByRecursion P (flat_map f xs)
 all_joined P f [] h = tt
 all_joined P f (x ∷ xs) h = All-append P (f x) (flat_map f xs) h.0 (all_joined P f xs h.1)
 

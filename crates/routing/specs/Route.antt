@@ -4,7 +4,7 @@
 --     Avoiding roads from to gone r   r is a simple route without the link
 --     Least m roads P n       n is the least cost of the routes that P picks
 use Rattle.std.specs.Prelude.{◌≡◌, ℕ, ◌≤◌, List, [], ◌∷◌}
-use Rattle.std.specs.List.{ContainsAt as Has, AllByRecursion as All}
+use Rattle.std.specs.List.{ContainsAt as Has, AllByRecursion}
 use Rattle.network.specs.Plan.{link}
 use Rattle.network.specs.Shared.{Once}
 use Rattle.network.specs.Roads.{Roads, Passable, Joins}
@@ -25,7 +25,7 @@ abbrev pub Simple : Roads → (from to : ℕ) → List ℕ → Type 0
 Simple roads from to [] = ⊥
 Simple roads from to (a ∷ bs) =
     ((link roads.plan.links a).start ≡ from) × ((link roads.plan.links (last_of a bs)).end ≡ to)
-    × Joined roads a bs × All (Passable roads) (a ∷ bs) × Once (a ∷ bs)
+    × Joined roads a bs × AllByRecursion (Passable roads) (a ∷ bs) × Once (a ∷ bs)
 
 -- a simple route that does not have the link
 abbrev pub Avoiding : Roads → (from to gone : ℕ) → List ℕ → Type 0

@@ -1,6 +1,6 @@
 -- The front that two routes have in common. Assumes nothing.
 use Rattle.std.proofs.Common.{◌≡◌, ℕ, zero, suc, ◌+◌, ◌<◌, ◌≤◌, Bool, true, false, cond, eqb, ◌⊎◌, List, [], ◌∷◌, length, get_or, take, sym, refl, ap, ◌∙◌, ⊎_elim, arith}
-use Rattle.std.specs.List.{common_prefix_len, AllByRecursion as All}
+use Rattle.std.specs.List.{common_prefix_len, AllByRecursion}
 use Rattle.std.proofs.ByRecursion.{All-get_or}
 use Rattle.std.proofs.lemmas.List.{get_or_past, get_or-take, take_all, take_more_same}
 use Rattle.std.proofs.lemmas.List.Sums.{common_prefix_len-le}
@@ -51,7 +51,7 @@ agree_through r s w k h l =
     agree_from_front r w k (f.0 ∙ e.0) f.1 e.2
 
 abbrev pub Links : List ℕ → Type 0
-Links r = All (λ a. 1 ≤ a) r
+Links r = AllByRecursion (λ a. 1 ≤ a) r
 
 pub route_over : (r : List ℕ) (k : ℕ) → Links r → get_or r k 0 ≡ 0 → length r ≤ k
 route_over r k links z = ⊎_elim (λ (h : k < length r). let one = All-get_or (λ a. 1 ≤ a) r k 0 h links in absurd (omega arith)) (λ h. h) (cases_lt k (length r))

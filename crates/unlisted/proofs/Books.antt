@@ -1,6 +1,6 @@
 -- The routes that a legible book lists. Assumes nothing.
 use Rattle.std.proofs.Common.{◌≡◌, ℕ, ◌+◌, ◌-◌, ◌*◌, ◌<◌, ◌≤◌, false, List, [], ◌∷◌, ◌++◌, length, get_or, take, drop, replicate, sym, refl, ap, ◌∙◌, subst, ⊎_elim, arith}
-use Rattle.std.specs.List.{prefix_len, AllByRecursion as All}
+use Rattle.std.specs.List.{prefix_len, AllByRecursion}
 use Rattle.std.proofs.ByRecursion.{All-weaker}
 use Rattle.std.proofs.lemmas.List.{length-take, get_or-take, get_or-drop, get_or_past, get_or_append_left, get_or-append_right, get_or-replicate, length-replicate, take-take, length-take-le, length-append, ext_get_or, take-append-drop}
 use Rattle.std.proofs.lemmas.List.Sums.{prefix_len-le-length}
@@ -17,7 +17,7 @@ use Rattle.unlisted.specs.declared.listing.Listing.{Listing}
 use Rattle.unlisted.specs.Listed.{route, Sound}
 use Rattle.unlisted.proofs.Agreeing.{Links}
 
-pub simple_passable : (roads : Roads) (from to : ℕ) (w : List ℕ) → Simple roads from to w → All (Passable roads) w
+pub simple_passable : (roads : Roads) (from to : ℕ) (w : List ℕ) → Simple roads from to w → AllByRecursion (Passable roads) w
 simple_passable roads from to [] s = absurd s
 simple_passable roads from to (a ∷ bs) s = s.3
 

@@ -1,6 +1,6 @@
 -- The routes that leave the listed ones after some links of one of them: those links, or those links with a completion. Assumes nothing.
 use Rattle.std.proofs.Common.{◌≡◌, ℕ, zero, suc, ◌+◌, ◌≤◌, Bool, false, List, [], ◌∷◌, ◌++◌, length, get_or, take, drop, sym, refl, ap, ◌∙◌, subst, inl, inr, ⊎_elim, arith}
-use Rattle.std.specs.List.{AllByRecursion as All}
+use Rattle.std.specs.List.{AllByRecursion}
 use Rattle.std.proofs.lemmas.List.{take-take, take_at, take-append-drop, length-take-le, length-append, get_or_past, get_or_at, append-nil}
 use Rattle.network.specs.Roads.{Passable}
 use Rattle.routing.specs.Route.{Simple}
@@ -27,7 +27,7 @@ module _ (q : Question) (few : length q.roads.plan.links ≤ 1024) (r : List ℕ
   -- the next link of a simple route, in the fork
   next_mark : (w : List ℕ) (b : ℕ) (bs : List ℕ) → w ≡ p ++ (b ∷ bs) → Simple q.roads q.from q.to w → has forbidden b ≡ goes_on q r k b
   next_mark w b bs e s =
-      let P : List ℕ → Type 0 = λ x. All (Passable q.roads) x in
+      let P : List ℕ → Type 0 = λ x. AllByRecursion (Passable q.roads) x in
       let free = (all_parts (Passable q.roads) p (b ∷ bs) (subst P e (simple_passable q.roads q.from q.to w s))).1.0 in
       sym (mark_of ends forbidden b free.0.0) ∙ forks b (omega (arith, free.0.1))
 

@@ -1,7 +1,7 @@
 -- The best route so far gets better. Assumes nothing.
 use Rattle.std.proofs.Common.{◌≡◌, ℕ, zero, suc, ◌+◌, ◌-◌, ◌<◌, ◌≤◌, Bool, true, false, eqb, ltb, ◌⊎◌, List, [], ◌∷◌, ◌++◌, length, get_or, take, replicate, Some, None, Option, sym, refl, ap, ◌∙◌, subst, inl, inr, ⊎_elim, arith}
 use Rattle.std.specs.Option.{option_map}
-use Rattle.std.specs.List.{AllByRecursion as All}
+use Rattle.std.specs.List.{AllByRecursion}
 use Rattle.std.proofs.lemmas.List.{take_at, length-append, length-replicate}
 use Rattle.std.proofs.lemmas.Bool.{eqb-true, eq-eqb, false≢true, both_ways, not-true, not-false, not_from_false, ltb-true, ltb-false, le-ltb, cases_Bool}
 use Rattle.network.specs.Plan.{link}
@@ -155,7 +155,7 @@ ends_read roads to [] h end is = absurd (omega arith)
 ends_read roads to (a ∷ bs) h end is =
     ap (λ (x : ℕ). eqb x to) (is ∙ ap (λ (x : ℕ). (link roads.plan.links x).end) (last_read a bs (length (a ∷ bs) - 1) (omega arith)))
 
-pub begins_passable : (roads : Roads) (from : ℕ) (p : List ℕ) → Begins roads from p → All (Passable roads) p
+pub begins_passable : (roads : Roads) (from : ℕ) (p : List ℕ) → Begins roads from p → AllByRecursion (Passable roads) p
 begins_passable roads from [] b = tt
 begins_passable roads from (a ∷ bs) b = b.2
 

@@ -1,6 +1,6 @@
 // The best route so far, and what a beginning makes of it.
 ghost use Rattle.std.specs.Prelude.{◌≡◌, ◌<◌, ◌≤◌, not, length};
-ghost use Rattle.std.specs.List.{AllByRecursion as All};
+ghost use Rattle.std.specs.List.{AllByRecursion};
 ghost use Rattle.network.specs.Plan.{Laid, link};
 ghost use Rattle.network.specs.Laid.{plan};
 ghost use Rattle.network.specs.Roads.{Passable};
@@ -48,7 +48,7 @@ fn end_of(network: &Network, number: u16) -> u16
 
 // Whether links end at a node.
 fn ends_at(roads: Roads<'_>, to: u16, links: &[u16]) -> bool
-    requires { All (Passable (lent roads)) links.now }
+    requires { AllByRecursion (Passable (lent roads)) links.now }
     ensures { result ≡ ends_at (lent roads.entry) to links.now }
 {
     if links.is_empty() {

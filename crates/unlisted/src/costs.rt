@@ -1,6 +1,6 @@
 // What the first links of a route cost, and which links may not come after them.
 ghost use Rattle.std.specs.Prelude.{◌≡◌, ◌≤◌, ◌∷◌, map, length, slice_index};
-ghost use Rattle.std.specs.List.{AllByRecursion as All};
+ghost use Rattle.std.specs.List.{AllByRecursion};
 ghost use Rattle.network.specs.Plan.{Laid};
 ghost use Rattle.network.specs.Laid.{plan};
 ghost use Rattle.network.specs.Marks.{marks};
@@ -41,7 +41,7 @@ pub(crate) fn price_along<M: Measure>(
     costs: &mut [M::Cost],
 )
     requires room { length links.now ≤ length costs.old }
-    requires laid { All (Laid (plan network.now).links) links.now }
+    requires laid { AllByRecursion (Laid (plan network.now).links) links.now }
     ensures { Priced M.Measure.rank (M.Measure.ranks measure.now) (plan network.now) links.now costs.new }
 {
     let mut cost = measure.start();

@@ -4,7 +4,7 @@
 --     some_pass p xs  an element passes p
 --     Computes f      what the checker computes of a figure
 use Rattle.std.proofs.Common.{◌≡◌, ℕ, ◌≤◌, Bool, true, false, not, ◌&&◌, ◌||◌, eqb, leb, List, [], ◌∷◌, filter, subst, ⊎_elim}
-use Rattle.std.specs.List.{ContainsAt as Has, AllByRecursion as All, list_all}
+use Rattle.std.specs.List.{ContainsAt as Has, AllByRecursion, list_all}
 use Rattle.std.specs.Str.{bytes_eq}
 use Rattle.std.proofs.ByRecursion.{all-has}
 use Rattle.std.proofs.lemmas.Slice.Eq.{bytes_eq-Decides}
@@ -39,7 +39,7 @@ listed_true (s ∷ rs) r t =
     (λ e. has_later rs s r (listed_true rs r e)) (or_cases (bytes_eq s r) (listed rs r) t)
 
 pub all_pass_true : {X : Type 0} (p : X → Bool) (P : X → Type 0) → ((x : X) → p x ≡ true → P x)
-    → (xs : List X) → list_all p xs ≡ true → All P xs
+    → (xs : List X) → list_all p xs ≡ true → AllByRecursion P xs
 all_pass_true p P h [] t = tt
 all_pass_true p P h (x ∷ xs) t =
     let parts = and_parts (p x) (list_all p xs) t in

@@ -7,7 +7,7 @@
 --     Stands f                  what the figure says of the definitions
 --     figures                   the list of all of them
 use Rattle.std.specs.Prelude.{◌≡◌, ℕ, ◌+◌, ◌-◌, ◌*◌, ◌≤◌, true, false, List, [], ◌∷◌, map, replicate, ◌≢◌, slice_set}
-use Rattle.std.specs.List.{ContainsAt as Has, AllByRecursion as All}
+use Rattle.std.specs.List.{ContainsAt as Has, AllByRecursion}
 use Rattle.network.specs.Plan.{Plan, empty}
 use Rattle.network.specs.Roads.{Roads}
 use Rattle.image.specs.Image.{encode, decode, holds}
@@ -50,7 +50,7 @@ pub data Figure : Type 0 where
 
 abbrev pub Pairwise : {X : Type 0} → (X → X → Type 0) → List X → Type 0
 Pairwise R [] = Unit {0}
-Pairwise R (x ∷ xs) = All (R x) xs × Pairwise R xs
+Pairwise R (x ∷ xs) = AllByRecursion (R x) xs × Pairwise R xs
 
 abbrev pub routes_in : List Row → List (List ℕ)
 routes_in table = map (λ row. row.route) table
@@ -72,7 +72,7 @@ abbrev pub Stands : Figure → Type 0
 Stands (image plan bytes) = (encode plan ≡ bytes) × (decode bytes ≡ holds plan)
 -- each row stands, the rows are in order and different, and there is no other simple route
 Stands (routes m roads from to table) =
-    All (RowStands m roads from to) table × Pairwise ComesBefore table
+    AllByRecursion (RowStands m roads from to) table × Pairwise ComesBefore table
     × ((r : List ℕ) → Simple roads from to r → Has (routes_in table) r)
 Stands (shared_with_first table counts) = map (λ r. shared r (first_route table)) (routes_in table) ≡ counts
 Stands (least_without m roads from to gone least) = Least m roads (Avoiding roads from to gone) least
