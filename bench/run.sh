@@ -1,26 +1,24 @@
 #!/bin/sh
 # Times the program routes beside an unproved peer, on maps that it makes. README.md beside it says how to read the tables.
 #     sh bench/run.sh [REPETITIONS]
-# ROUTES=PROGRAM times another program in place of target/bin/routes, and SEED=NUMBER makes other maps.
+# ROUTES=PROGRAM times another program in place of crates/routes/out/routes, and SEED=NUMBER makes other maps.
 set -eu
 routes=${ROUTES:+$(realpath "$ROUTES")}
 cd "$(dirname "$0")/.."
-routes=${routes:-$(pwd)/target/bin/routes}
-lay=$(pwd)/target/bin/lay
+routes=${routes:-$(pwd)/crates/routes/out/routes}
+lay=$(pwd)/crates/lay/out/lay
 work=$(mktemp -d)
 trap 'rm -rf "$work"' EXIT
 
-# Proves and builds programs that are missing.
+# Proves and builds a program that is missing, which a run with no input ends.
 build() {
-    echo "rt check $*"
-    rt check "$@" >"$work/check.log" 2>&1 || { cat "$work/check.log"; exit 1; }
+    echo "building $1"
+    (cd "crates/$1" && rt run </dev/null) >"$work/build.log" 2>&1 || { cat "$work/build.log"; exit 1; }
+    rm -f "crates/$1/map.img"
 }
 
-if [ ! -x "$routes" ]; then
-    build routes lay
-elif [ ! -x "$lay" ]; then
-    build lay
-fi
+[ -x "$routes" ] || build routes
+[ -x "$lay" ] || build lay
 g++ -O2 -std=c++17 -o "$work/peer" bench/peer.cpp
 
 python3 bench/towns.py "$work/maps" "${SEED:-71}"

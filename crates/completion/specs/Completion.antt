@@ -1,5 +1,5 @@
 -- Completions of a beginning.
---     Begins roads from p        p goes on from the node as a simple route does; it may be empty
+--     Begins roads from p           p goes on from the node as a simple route does; it may be empty
 --     end_of roads from p           the node at which p ends, or from which it sets out
 --     Completes roads from to p forbidden ws   p and then the links ws are a simple route, and the first of ws is none of the forbidden
 --     Completed ...                 the answer to the quest for a completion, and the line after it

@@ -4,7 +4,7 @@
 --     Inv g s k m st       m links are settled; the links after s were brought up to date below k, those after each other settled link all
 --     Latest s st          s was settled last
 --     Least st t           of the labelled links that are not settled t has the least label
---     AllSettled st       each labelled link is settled
+--     AllSettled st        each labelled link is settled
 use Rattle.std.specs.Prelude.{◌≡◌, ℕ, ◌+◌, ◌<◌, ◌≤◌, Bool, true, false, ◌≢◌, ◌⊎◌, List, [], ◌∷◌}
 use Rattle.completion.specs.Graph.{Graph, Joined, cost_on, Arrives, cost}
 use Rattle.routing.specs.Route.{last_of}

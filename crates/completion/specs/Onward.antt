@@ -1,6 +1,6 @@
 -- Going on from a beginning over a plan, as a graph.
 --     Setting              from where ways go on, to which node, without which links, and at which cost they are not sought any more
---     setting rank quest  the setting of a quest of the code
+--     setting rank quest   the setting of a quest of the code
 --     has marks n          link n has the mark
 --     tail s a             the link that a way stands on at a: a itself, and for the beginning its last link, or 0 where it has none
 --     stop s a             the node that a way stands at

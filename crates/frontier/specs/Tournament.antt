@@ -7,7 +7,7 @@
 --     Within f               each node holds 0 or a link
 --     Sound ls f             each leaf holds its own link or 0, and each inner node the winner of its children
 --     Mending ls f k         as sound, but for node k
---     NoneWaits f           no link waits in f
+--     NoneWaits f            no link waits in f
 --     Least ls f t           t waits in f, and no link that waits has a lower label
 --     Finds ls f r           r is a link with the least label of those that wait, or none where none waits
 --     Changed f g n w        link n waits in g if w says so, and each other link as in f

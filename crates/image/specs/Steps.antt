@@ -2,7 +2,7 @@
 --     reading_of r               what laying the records of an image came to
 --     Octets bs                  each byte is below 256
 --     entry_is e kind place      the contents entry has the kind, zero and the place
---     EntryIn bs e rest         e is the contents entry at the front of the bytes, and the rest follows it
+--     EntryIn bs e rest          e is the contents entry at the front of the bytes, and the rest follows it
 use Rattle.std.specs.Prelude.{◌≡◌, ℕ, ◌<◌, ◌≤◌, Bool, ◌&&◌, List, length, drop, Ok, Err, Result, ◌==◌, slice_index}
 use Rattle.network.specs.declared.draft.Draft.{Draft}
 use Rattle.network.specs.Laid.{drafted}

@@ -1,4 +1,5 @@
 // The text of a town, from a file that is named or from standard input.
+use crate::stop::Stop;
 use anyhow::anyhow;
 use std::alloc::Global;
 use std::fs::File;
@@ -16,21 +17,24 @@ fn read_some<R: Read + Drop>(input: R, heap: Global) -> io::Result<Vec<u8>> {
 }
 
 // All that a file holds, up to the limit.
-fn read_file(rt: &HostRuntime, path: &str) -> anyhow::Result<Vec<u8>> {
+fn read_file(rt: &HostRuntime, path: &str) -> Result<Vec<u8>, Stop> {
     match File::open(rt, path) {
         Ok(file) => Ok(read_some(file, rt.alloc())?),
-        Err(error) => Err(anyhow!("cannot read {path}: {error}")),
+        Err(error) => {
+            let line = format!(in rt.alloc(); "cannot read {path}: {error}")?;
+            Err(Stop::Line(line))
+        }
     }
 }
 
-pub(crate) fn read_town(rt: &HostRuntime) -> anyhow::Result<Vec<u8>> {
+pub(crate) fn read_town(rt: &HostRuntime) -> Result<Vec<u8>, Stop> {
     let mut args = env::args(rt)?.skip(1);
     let text = match args.next() {
         Some(path) => read_file(rt, path.as_str())?,
         None => read_some(rt.stdin(), rt.alloc())?,
     };
     if text.len() as u64 > MOST_BYTES {
-        return Err(anyhow!("the town text is over 1,048,576 bytes"));
+        return Err(anyhow!("the town text is over 1,048,576 bytes").into());
     }
     Ok(text)
 }

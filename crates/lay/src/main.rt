@@ -3,12 +3,14 @@
 
 mod input;
 mod output;
+mod stop;
 
 use anyhow::anyhow;
 use input::read_town;
 use network::Draft;
 use output::write_map;
 use std::process::ExitCode;
+use stop::Stop;
 use town::{cause, lay_town};
 
 // The draft that a town's text lays, or what is wrong with the first line that is refused.
@@ -24,13 +26,14 @@ fn lay_text(text: &[u8]) -> anyhow::Result<Draft> {
     }
 }
 
-fn run(rt: &HostRuntime) -> anyhow::Result<()> {
+fn run(rt: &HostRuntime) -> Result<(), Stop> {
     let text = read_town(rt)?;
     let draft = lay_text(&text)?;
     let links = draft.link_count();
     let turns = draft.turn_count();
     println!(rt; "laid {links} links and {turns} turns")?;
-    write_map(rt, draft)
+    write_map(rt, draft)?;
+    Ok(())
 }
 
 fn main(rt: HostRuntime) -> anyhow::Result<ExitCode> {

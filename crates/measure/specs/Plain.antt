@@ -1,7 +1,7 @@
 -- Plain sums over a list of links, without a stop, and when costs are such sums.
 --     plain_metres plan route    the lengths of the links and the extras of the turns between neighbours
 --     plain_turns plan route     how many of the turns between neighbours are turns left, right or back
---     NoStop                    on a lawful plan no cost of at most 1,024 links comes to a stop
+--     NoStop                     on a lawful plan no cost of at most 1,024 links comes to a stop
 use Rattle.std.specs.Prelude.{◌≡◌, ℕ, ◌+◌, ◌*◌, ◌/◌, ◌%◌, ◌≤◌, cond, List, [], ◌∷◌, length}
 use Rattle.network.specs.Plan.{Plan, Lawful, link}
 use Rattle.network.specs.Roads.{turn}

@@ -1,4 +1,4 @@
--- The measure turns_first: fewer turns come first, and among as many turns fewer metres. A rank is the turns times
+-- The measure turns-first: fewer turns come first, and among as many turns fewer metres. A rank is the turns times
 -- 4,294,967,296 and the metres; it starts at 0 and stops at 18,446,744,073,709,551,615.
 --     one_turn          what one turn adds to a rank
 --     is_turn class     left, right and back are turns; straight on and barred are none

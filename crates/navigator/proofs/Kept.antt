@@ -1,7 +1,7 @@
 -- What every call keeps: the ledger gives the map's state, and the open question's book holds what was handed out.
 -- Assumes nothing.
 --     state_of l               the state that a ledger gives
---     BookHolds left handed   the book that was left, if one was, holds the routes handed out
+--     BookHolds left handed    the book that was left, if one was, holds the routes handed out
 --     Kept m l s               the state is the ledger's, the open question's book holds its routes, and each question is served
 --                              cheapest first
 use Rattle.std.proofs.Common.{◌≡◌, ℕ, ◌*◌, ◌<◌, ◌≤◌, true, false, List, [], ◌∷◌, length, IfSome, Some, None, Option, sym, refl, ap, ◌∙◌, subst, inl, inr, add-one, arith}

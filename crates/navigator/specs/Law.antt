@@ -1,6 +1,6 @@
 -- The law of the questions: cheapest first, none twice, and none left out.
 --     Of q r               r is a simple route of the question, on the roads as they stood at its ask
---     CheapestFirst m q   the routes handed out are simple routes of the question, all different, none cheaper than the one before it,
+--     CheapestFirst m q    the routes handed out are simple routes of the question, all different, none cheaper than the one before it,
 --                          and none dearer than a simple route that was not handed out
 --     Told q answer        refusal 16 tells that every simple route of the question was handed out
 --     Law m first          all of this, of every run from the state first

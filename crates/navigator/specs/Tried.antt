@@ -1,5 +1,5 @@
 -- What a search without a book tells.
---     LeastTold rank m plan marks from to r    r is the least cost of a simple route over the links that are not marked closed, or
+--     LeastTold rank m plan marks from to r     r is the least cost of a simple route over the links that are not marked closed, or
 --                                               it tells by 16 that there is none
 use Rattle.std.specs.Prelude.{◌≡◌, ℕ, Bool, List, Result, MatchResult}
 use Rattle.network.specs.declared.refusal.Refusal.{Refusal}

@@ -1,8 +1,8 @@
 -- The index of turn entries by their link in. Entries are numbered from 1 in the order of their table.
 --     entry turns k              the entry of number k
 --     has_in turns j into        the entry of number j has the link in
---     Heads-...                  for each link, heads has the last entry with that link in, or 0 where none has it
---     Nexts-...                  for each entry, nexts has the last one before it with the same link in, or 0 where none has it
+--     HeadsWithin .. HeadsLast   for each link, heads has the last entry with that link in, or 0 where none has it
+--     NextsWithin .. NextsLast   for each entry, nexts has the last one before it with the same link in, or 0 where none has it
 use Rattle.std.specs.Prelude.{◌≡◌, ℕ, ◌<◌, ◌≤◌, Bool, true, false, List, ◌∷◌, length, ◌==◌, slice_index, slice_index_or}
 use Rattle.network.specs.declared.turn.Turn.{Turn}
 use Rattle.network.specs.Plan.{no_turn}

@@ -1,13 +1,13 @@
 -- A plan: what is laid of a town. Its links are numbered from 1 as they were laid.
 --     link links n                the link of number n
 --     Laid links n                a link has the number n
---     LinksWithin links          nodes, lengths and tightnesses are within their limits
---     StartsRise links           the starts never fall from one link to the next
+--     LinksWithin links           nodes, lengths and tightnesses are within their limits
+--     StartsRise links            the starts never fall from one link to the next
 --     same_pair t into out        t is an entry of the pair
 --     has_entry turns into out    the pair has an entry
---     EntriesWithin turns        classes and extras are within their limits
---     EntriesMeet links turns    the links of each entry are laid, and the first ends where the second starts
---     PairsApart turns           no pair has two entries
+--     EntriesWithin turns         classes and extras are within their limits
+--     EntriesMeet links turns     the links of each entry are laid, and the first ends where the second starts
+--     PairsApart turns            no pair has two entries
 --     Lawful plan                 all of these laws
 use Rattle.std.specs.Prelude.{◌≡◌, ℕ, ◌+◌, ◌<◌, ◌≤◌, Bool, false, ◌&&◌, ◌||◌, List, [], ◌∷◌, length, get_or, ◌==◌, nat_le, slice_index_or}
 use Rattle.network.specs.declared.link.Link.{Link}

@@ -2,8 +2,8 @@
 --     Once links           all the links are different
 --     stands_in a bs       a stands in bs
 --     shared r s           how many links of r stand in s
---     LinkNumber n        a set can have link n
---     SharedIsCounted    the links that a list of different links shares with another are those with both marks
+--     LinkNumber n         a set can have link n
+--     SharedIsCounted      the links that a list of different links shares with another are those with both marks
 use Rattle.std.specs.Prelude.{◌≡◌, ℕ, ◌+◌, ◌≤◌, Bool, false, cond, ◌||◌, List, [], ◌∷◌, ◌==◌}
 use Rattle.std.specs.List.{ContainsAt as Has, AllByRecursion}
 use Rattle.network.specs.Marks.{marks_of, both}

@@ -1,6 +1,6 @@
 -- No simple route meets the stop of a measure.
---     RoutesUnstopped    on a lawful plan of at most 1,024 links a simple route has at most 1,024 links, and its cost under
---                         metres and under turns_first is the plain sum
+--     RoutesUnstopped     on a lawful plan of at most 1,024 links a simple route has at most 1,024 links, and its cost under
+--                         metres and under turns-first is the plain sum
 use Rattle.std.specs.Prelude.{ℕ, ◌≤◌, List, length}
 use Rattle.network.specs.Plan.{Lawful}
 use Rattle.network.specs.Roads.{Roads}

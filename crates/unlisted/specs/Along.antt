@@ -2,7 +2,7 @@
 --     nexts fork              a mark for each link that comes next in a fork, by its number; number 0 is an end
 --     Forks q r k fork        the fork has how listed routes go on that agree with r for k links
 --     Fronts q r fronts       for each listed route, how many links at the front of it and of r are the same
---     NewFrom fronts j low   just the beginnings of fewer than `low` links are those of one of the first j routes too
+--     NewFrom fronts j low    just the beginnings of fewer than `low` links are those of one of the first j routes too
 --     Priced rank m plan r costs   what the first links of r cost
 --     Ready rank m q along    what is carried along a listed route is as it should be
 use Rattle.std.specs.Prelude.{◌≡◌, ℕ, ◌<◌, ◌≤◌, Bool, false, List, ◌∷◌, map, length, take, slice_index, slice_index_or}

@@ -5,9 +5,9 @@
 --                             ends there
 --     goes_on q r k b         so does one of the listed routes
 --     Leaves q r k w          w has the first k links of r, and goes on or ends as no listed route does that has them too
---     LeftAt q r k w         w is a simple route that so leaves the listed ones
+--     LeftAt q r k w          w is a simple route that so leaves the listed ones
 --     Left q j w              w is a simple route that leaves the listed ones along one of the first j
---     LeftLate q j k w       so it is, or it leaves them along route j after k links or more
+--     LeftLate q j k w        so it is, or it leaves them along route j after k links or more
 use Rattle.std.specs.Prelude.{◌≡◌, ℕ, zero, suc, ◌<◌, ◌≤◌, Bool, false, ◌&&◌, ◌||◌, ◌⊎◌, List, ◌==◌, nat_eq, nat_le, slice_index}
 use Rattle.std.specs.List.{common_prefix_len}
 use Rattle.network.specs.Roads.{Roads}

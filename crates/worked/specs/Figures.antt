@@ -1,6 +1,6 @@
 -- The worked figures, and what it is for one to stand.
 --     730 by (2 ∷ 4 ∷ 3 ∷ [])   a row of a table of routes: the cost, and the links that cost it
---     1 turns_and 730           a cost under turns_first: turns, and metres
+--     1 turns_and 730           a cost under turns-first: turns, and metres
 --     open_roads, closed_at     the sample map with no link closed, and with one
 --     Figure                    a figure as the documents print it
 --     Pairwise R xs             each element has R to each one after it
