@@ -5,26 +5,14 @@ spelling in them, and so do the language's own words.
 usage: python3 tools/respell_labels.py          at the top of the repository, once, after respell_names.py
 """
 
-import os
 import re
 import sys
+
+from respell_names import files, read
 
 KNOWN = """overflow_add overflow_sub overflow_mul overflow_cast overflow_step overflow_shl overflow_shr invariant_of in_err in_ok in_default slice_bounds
 nonzero_div nonzero_rem offset_bounds prove_unreachable split_at is_empty is_ascii_digit as_slice copy_from_slice from_be_bytes to_be_bytes
 from_residual is_some is_none is_ok is_err then_some count_ones as_ref split_first type_inv well_formed""".split()
-
-
-def files(*endings):
-    for folder, dirs, names in os.walk("crates"):
-        dirs[:] = sorted(d for d in dirs if d not in ("out", "target", ".git"))
-        for name in sorted(names):
-            if name.endswith(endings):
-                yield os.path.join(folder, name)
-
-
-def read(path):
-    with open(path, encoding="utf-8") as f:
-        return f.read()
 
 
 def main():
