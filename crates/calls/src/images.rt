@@ -6,7 +6,7 @@ use std::alloc::{AllocError, Global};
 // The bytes of a full map's image.
 const FULL: usize = 27_664;
 
-// The image of a map.
+// The image of a map. `figures` has the like of it: a crate for the two would be longer than both.
 pub(crate) fn image_of(heap: Global, map: &Map<Metres>) -> Result<Vec<u8>, AllocError> {
     let mut buffer = vec![in heap; 0u8; FULL]?;
     let size = navigator::write_image(map, buffer.as_mut_slice()).unwrap_or(0);
@@ -16,13 +16,13 @@ pub(crate) fn image_of(heap: Global, map: &Map<Metres>) -> Result<Vec<u8>, Alloc
 
 // The places, as far as both images go, that hold different bytes.
 fn places_changed(heap: Global, before: &[u8], after: &[u8]) -> Result<Vec<usize>, AllocError> {
-    let mut places = Vec::new(heap);
-    for (place, (old, new)) in before.iter().zip(after.iter()).enumerate() {
-        if *old != *new {
-            places.push(place)?;
-        }
-    }
-    Ok(places)
+    before
+        .iter()
+        .zip(after)
+        .enumerate()
+        .filter(|(_, (old, new))| **old != **new)
+        .map(|(place, _)| place)
+        .collect(heap)
 }
 
 // How the image of a map differs from one that was written before: its size, the places changed, and the bytes added.

@@ -3,7 +3,7 @@ use measure::{Measure, Metres, Narrowest, TurnsFirst};
 use network::{Link, Turn};
 use std::{fmt, io};
 
-// The classes of turns, for the letters S, L, R, U and X.
+// The classes of turns, for the letters S, L, R, U and X, spelled here again, so that the program tells what a number means.
 const STRAIGHT: u8 = 0;
 
 const LEFT: u8 = 1;
@@ -14,7 +14,8 @@ const BACK: u8 = 3;
 
 const BARRED: u8 = 4;
 
-// What a cost goes on over: a link of a length and a tightness, or a turn of a class and an extra.
+// What a cost goes on over: a link of a length and a tightness, or a turn of a class and an extra. A
+// row does not name its numbers: it is a line of a table.
 #[derive(Clone, Copy)]
 enum Way {
     Street(u32, u8),
@@ -127,7 +128,8 @@ const NARROWEST: [(u8, Way); 15] = [
     (255, Way::Bend(BACK, 1_000_000)),
 ];
 
-// Prints the start, and the cost after each way.
+// Prints the start, and the cost after each way. A measure and its name stand side by side at three calls each: a struct
+// for the two would be longer.
 fn show_ways<M: Measure>(
     rt: &HostRuntime,
     name: &str,

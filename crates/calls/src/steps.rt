@@ -4,7 +4,8 @@ use navigator::Map;
 use network::Refusal;
 use std::fmt;
 
-// A call: a link; link in, link out, letter and extra; or origin and destination.
+// A call: a link; link in, link out, letter and extra; or origin and destination. It is data and no closure, since it is
+// printed beside its answer; and it does not name its numbers, since it is a line of a table.
 #[derive(Clone, Copy)]
 pub enum Step {
     Close(u32),
@@ -49,10 +50,7 @@ impl fmt::Display for Answer {
     fn fmt<W: fmt::Write>(&self, f: &mut fmt::Formatter<W>) -> fmt::Result {
         match self.0 {
             Ok(()) => write!(f, "accepted"),
-            Err(refusal) => {
-                let number = refusal.number();
-                write!(f, "refused {number}")
-            }
+            Err(refusal) => write!(f, "refused {refusal}"),
         }
     }
 }

@@ -1,6 +1,8 @@
-// The towns that the calls are made on, laid in drafts.
+// The towns that the calls are made on, laid in drafts. `figures` lays the like of them: a crate for the two would be longer
+// than both.
 use network::Draft;
 
+// Start, end, length and tightness. A link does not name its numbers: it is a line of the table, and would be six.
 const LINKS: [(u32, u32, u32, u8); 6] = [
     (1, 2, 350, 2),
     (1, 3, 200, 5),
@@ -10,6 +12,7 @@ const LINKS: [(u32, u32, u32, u8); 6] = [
     (4, 3, 150, 2),
 ];
 
+// Link in, link out, letter and extra.
 const TURNS: [(u32, u32, char, u32); 4] = [
     (2, 5, 'R', 120),
     (4, 3, 'L', 30),

@@ -89,7 +89,7 @@ module _ (m : Ranks) (lawful : Lawful m) (roads : Roads) (from to : ℕ) (p : Li
         let comp = completes_of way leads in
         let total : count ≡ length (p ++ way) = w.total ∙ sym (length-append p way) in
         let front : take count line' ≡ p ++ way = ap (λ (xs : List ℕ). take count xs) w.route ∙ take_at (p ++ way) (replicate (length line - count) 0) count (sym total) in
-        let price : rank c ≡ st.label t = sym (label_at rank begin labels tree t c best.low inside is) in
+        let price : rank c ≡ st.label t = sym (label_at rank begin labels tree t t c best.low refl inside is) in
         let long : length line' ≡ length (p ++ way) + (length line - count) =
         ap length w.route ∙ length-append (p ++ way) (replicate (length line - count) 0) ∙ ap (λ x. length (p ++ way) + x) (length-replicate (length line - count) 0) in
         record {

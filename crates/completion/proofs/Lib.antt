@@ -9,3 +9,4 @@ pub mod Settling
 pub mod Traces
 pub mod Ends
 pub mod Cheapest
+pub mod Facts

@@ -8,6 +8,7 @@ use Rattle.network.specs.Plan.{link, laid, Laid, no_link}
 use Rattle.network.specs.Roads.{LinksBelow}
 use Rattle.measure.specs.Ranks.{Ranks}
 use Rattle.completion.specs.declared.quest.Stand.{Stand}
+use Rattle.frontier.specs.declared.tournament.Tournament.{Tournament}
 use Rattle.completion.specs.declared.tree.Tree.{Tree}
 use Rattle.completion.specs.Graph.{Graph, Laws}
 use Rattle.completion.specs.Growth.{State, Inv, Latest, Relaxed}
@@ -20,15 +21,20 @@ pub link_at : (links : List Link) (n : ℕ) → 0 < n → link links n ≡ get_o
 link_at links zero h = absurd (omega arith)
 link_at links (suc n) h = let e : n ≡ suc n - 1 = omega arith in ap (λ k. get_or links k no_link) e
 
+-- the node that a link ends at, read from the links as they are lent
+pub end_read : (links as_lent : List Link) (n k : ℕ) → 0 < n → k ≡ n - 1 → as_lent ≡ links → (link links n).end ≡ (get_or as_lent k no_link).end
+end_read links as_lent n k some is same =
+    ap (λ (l : Link). l.end) (link_at links n some ∙ ap (λ x. get_or links x no_link) (sym is) ∙ ap (λ (ls : List Link). get_or ls k no_link) (sym same))
+
 -- the link at a place between the two starts at the node
-pub between : (links : List Link) (node first end place : ℕ) → LinksBelow links node first → LinksBelow links (node + 1) end
-    → first ≤ place → place < end → Laid links (place + 1) × ((link links (place + 1)).start ≡ node)
-between links node first end place f e low high =
+pub between : (links : List Link) (node first end place n : ℕ) → LinksBelow links node first → LinksBelow links (node + 1) end
+    → first ≤ place → place < end → n ≡ place + 1 → Laid links n × ((link links n).start ≡ node)
+between links node first end place n f e low high is =
     let inside : place < length links = omega (arith, e.within) in
     let over = f.others place low inside in
     let under = e.lower place high in
-    let at = link_at links (place + 1) (omega arith) in
-    let here : place + 1 - 1 ≡ place = omega arith in
+    let at = link_at links n (omega arith) in
+    let here : n - 1 ≡ place = omega arith in
     ((omega arith, omega arith), ap (λ (l : Link). l.start) (at ∙ ap (λ k. get_or links k no_link) here) ∙ omega arith)
 
 module _ (m : Ranks) (s : Setting) where
@@ -58,17 +64,17 @@ module _ (m : Ranks) (s : Setting) where
       let p = place_start a t n in
       omega (arith, p.0, p.2, f.others (t - 1) (omega (arith, p.0)) p.1, e)
 
-  module _ {C : Type 0} (rank : C → ℕ) (begin a : ℕ) (labels : List C) (tree : Tree) where
+  module _ {C : Type 0} (rank : C → ℕ) (begin a : ℕ) (labels : List C) (tree : Tree) (nodes : Tournament) where
     -- before the first of them
-    pub growing_first : (node first : ℕ) → node ≡ stop s a → LinksBelow s.plan.links node first → Growing rank g a 1 begin labels tree → Growing rank g a (first + 1) begin labels tree
+    pub growing_first : (node first : ℕ) → node ≡ stop s a → LinksBelow s.plan.links node first → Growing rank g a 1 begin labels tree nodes → Growing rank g a (first + 1) begin labels tree nodes
     growing_first node first e f w = record {
       inv = relaxed_skip g a 1 (first + 1) (tally tree) _ w.inv (λ t l h n. none_below a node first e f t h n);
       ready = w.ready;
     }
 
     -- behind the last
-    pub growing_all : (node end place : ℕ) → node ≡ stop s a → LinksBelow s.plan.links (node + 1) end → end ≤ place → Growing rank g a (place + 1) begin labels tree
-        → Growing rank g a (length s.plan.links + 1) begin labels tree
+    pub growing_all : (node end place : ℕ) → node ≡ stop s a → LinksBelow s.plan.links (node + 1) end → end ≤ place → Growing rank g a (place + 1) begin labels tree nodes
+        → Growing rank g a (length s.plan.links + 1) begin labels tree nodes
     growing_all node end place e f h w = record {
       inv = relaxed_skip g a (place + 1) (length s.plan.links + 1) (tally tree) _ w.inv (λ t l u n. none_above a node end e f t (omega arith) n);
       ready = w.ready;
@@ -101,10 +107,10 @@ module _ {C : Type 0} (rank : C → ℕ) (m : Ranks) (s : Setting) (labels label
       })
       r
 
-  pub growing_more : Laws (graph m s) → tree'.settled ≡ tree.settled → Growing rank (graph m s) stand.number t s.cost labels tree → Latest stand.number st
-      → Relaxed (graph m s) stand.number t st after → Ready rank s.cost labels' tree'
-      → Growing rank (graph m s) stand.number (t + 1) s.cost labels' tree' × Latest stand.number after
-  growing_more law same w late r ready =
+  pub growing_more : (nodes nodes' : Tournament) → Laws (graph m s) → tree'.settled ≡ tree.settled → Growing rank (graph m s) stand.number t s.cost labels tree nodes → Latest stand.number st
+      → Relaxed (graph m s) stand.number t st after → Ready rank s.cost labels' tree' nodes'
+      → Growing rank (graph m s) stand.number (t + 1) s.cost labels' tree' nodes' × Latest stand.number after
+  growing_more nodes nodes' law same w late r ready =
       let more = relaxed_more (graph m s) law stand.number t (tally tree) st after w.inv late r in
       let count : tally tree ≡ tally tree' = ap (λ (x : LinkSet). count_by (λ b. b) (marks x)) (sym same) in
       (record { inv = subst (λ (k : ℕ). Inv (graph m s) stand.number (t + 1) k after) count more.0; ready = ready }, more.1)

@@ -1,11 +1,11 @@
 -- The way to a labelled link, traced back. Assumes nothing.
-use Rattle.std.proofs.Common.{◌≡◌, ℕ, zero, suc, ◌+◌, ◌-◌, ◌<◌, ◌≤◌, ◌≢◌, List, [], ◌∷◌, ◌++◌, length, get_or, take, drop, set, replicate, sym, refl, ap, ◌∙◌, subst, ⊎_elim, arith}
-use Rattle.std.proofs.lemmas.List.{get_or-take, get_or-drop, get_or-set_same, get_or-set_other, drop_more, drop_all, drop-take, drop-append-le, append_assoc, length-take-le}
+use Rattle.std.proofs.Common.{◌≡◌, ℕ, zero, suc, ◌+◌, ◌-◌, ◌<◌, ◌≤◌, ◌≢◌, List, [], ◌∷◌, ◌++◌, length, get_or, take, drop, set, replicate, length-set, sym, refl, ap, ◌∙◌, subst, ⊎_elim, arith}
+use Rattle.std.proofs.lemmas.List.{get_or-take, get_or-set_same, get_or-set_other, drop_more, drop_all, append_assoc, length-take-le}
 use Rattle.std.proofs.lemmas.Bool.{cases_eq}
 use Rattle.completion.specs.declared.tree.Tree.{Tree}
 use Rattle.completion.specs.Graph.{Graph, Laws}
 use Rattle.completion.specs.Growth.{State, Inv, Chain}
-use Rattle.completion.specs.View.{view, depth_of, before_of, Threaded, Traced}
+use Rattle.completion.specs.View.{view, depth_of, before_of, Threaded, Traced, Written}
 use Rattle.completion.proofs.Ways.{Leads, chain_none, chain_more, chain_way, came_after, at_source, some_in}
 
 module _ (g : Graph) (s k m : ℕ) (st : State) (inv : Inv g s k m st) (t : ℕ) where
@@ -107,28 +107,28 @@ traced_one tree t n out inside = record {
   links = λ j low high. absurd (omega arith);
 }
 
--- a part of a line, cut out
-pub traced_part : (tree : Tree) (t o n : ℕ) (out : List ℕ) → 0 < n → o + n ≤ length out → Traced tree t (o + n) o out → Traced tree t n 0 (take n (drop o out))
-traced_part tree t o n out some room tr = record {
-  last = part (n - 1) (omega arith) ∙ (let e : o + (n - 1) ≡ o + n - 1 = omega arith in ap (λ x. get_or out x 0) e) ∙ tr.last;
-  links = λ j low high. part j (omega arith) ∙ tr.links (o + j) (omega arith) (omega arith)
-      ∙ ap (λ x. before_of tree x) ((let e : o + j + 1 ≡ o + (j + 1) = omega arith in ap (λ x. get_or out x 0) e) ∙ sym (part (j + 1) high));
-}
-  where
-    part : (i : ℕ) → i < n → get_or (take n (drop o out)) i 0 ≡ get_or out (o + i) 0
-    part i h = get_or-take n (drop o out) i 0 h ∙ get_or-drop o out i 0
+-- the same at the last place, where nothing was written yet, or before the others
+pub traced_step : (tree : Tree) (t p v : ℕ) (out : List ℕ) → 0 < p → p ≤ length out → (p ≡ length out → v ≡ t)
+    → (p < length out → (v ≡ before_of tree (get_or out p 0)) × Traced tree t (length out) p out)
+    → Traced tree t (length (set out (p - 1) v)) (p - 1) (set out (p - 1) v)
+traced_step tree t p v out some within first more =
+    subst (λ (n : ℕ). Traced tree t n (p - 1) (set out (p - 1) v)) (sym (length-set out (p - 1) v)) (⊎_elim
+    (λ (e : p ≡ length out).
+    subst (λ (x : ℕ). Traced tree t (length out) (p - 1) (set out (p - 1) x)) (sym (first e))
+    (subst (λ (k : ℕ). Traced tree t (length out) (k - 1) (set out (k - 1) t)) (sym e) (traced_one tree t (length out) out (omega arith))))
+    (λ (ne : p ≡ length out → ⊥).
+    let m = more (omega arith) in
+    traced_more tree t (length out) p (get_or out p 0) v out some (omega arith) (omega arith) refl m.0 m.1)
+    (cases_eq p (length out)))
 
--- links in front, a part of the line after them, and zeros after that
-pub behind_front : (front out blanked copied : List ℕ) (n count k total : ℕ) → copied ≡ front → n ≡ length front → k ≡ n → n + count ≤ length out → total ≡ length out
-    → blanked ≡ take (n + count) out ++ replicate (length out - (n + count)) 0
-    → copied ++ drop k blanked ≡ (front ++ take count (drop n out)) ++ replicate (total - (n + count)) 0
-behind_front front out blanked copied n count k total same long is room len e =
-    let zeros = replicate (length out - (n + count)) 0 in
-    let far : n ≤ length (take (n + count) out) = omega (arith, length-take-le (n + count) out room) in
-    ap (λ (xs : List ℕ). xs ++ drop k blanked) same
-    ∙ ap (λ (i : ℕ). front ++ drop i blanked) is
-    ∙ ap (λ (xs : List ℕ). front ++ drop n xs) e
-    ∙ ap (λ (xs : List ℕ). front ++ xs) (drop-append-le n (take (n + count) out) zeros far)
-    ∙ ap (λ (xs : List ℕ). front ++ (xs ++ zeros)) (drop-take n count out)
-    ∙ sym (append_assoc front (take count (drop n out)) zeros)
-    ∙ ap (λ (i : ℕ). (front ++ take count (drop n out)) ++ replicate (i - (n + count)) 0) (sym len)
+-- a beginning, the way to a link, and zeros
+pub written : (tree : Tree) (t : ℕ) (beginning line way blank line' : List ℕ) (count : ℕ) → length way ≡ depth_of tree t → count ≡ length way → Traced tree t (length way) 0 way
+    → blank ≡ replicate (length line - length beginning - count) 0 → line' ≡ beginning ++ (way ++ blank)
+    → Written tree t beginning line (length beginning + count) line'
+written tree t beginning line way blank line' count deep long traced zeros e = record {
+  way = way;
+  deep = deep;
+  traced = traced;
+  total = ap (λ k. length beginning + k) long;
+  route = e ∙ sym (append_assoc beginning way blank) ∙ ap (λ xs. (beginning ++ way) ++ xs) (zeros ∙ ap (λ k. replicate k 0) (omega arith));
+}

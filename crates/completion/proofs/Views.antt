@@ -6,14 +6,17 @@ use Rattle.std.proofs.lemmas.Bool.{cases_eq, cases_Bool, both_ways, and_right, a
 use Rattle.network.specs.declared.linkset.LinkSet.{LinkSet}
 use Rattle.network.specs.Marks.{marks, marked}
 use Rattle.network.proofs.Marked.{length_marks}
-use Rattle.frontier.specs.Tournament.{Sound, waits, Changed, NoneWaits, label}
+use Rattle.frontier.specs.declared.tournament.Tournament.{Tournament}
+use Rattle.frontier.specs.Tournament.{waits, Changed, NoneWaits, label}
 use Rattle.frontier.specs.Tournament as waiting
 use Rattle.frontier.proofs.Frontiers.{waits_own}
-use Rattle.frontier.proofs.Labels.{label_read, label_written, label_kept}
+use Rattle.frontier.proofs.Labelled.{label_read, label_written, label_kept}
+use Rattle.completion.specs.declared.tree.Step.{Step}
 use Rattle.completion.specs.declared.tree.Tree.{Tree}
+use Rattle.completion.specs.Steps.{no_step}
 use Rattle.completion.specs.Graph.{Graph}
 use Rattle.completion.specs.Growth.{State, Put, Settled, Fresh, Least, AllSettled}
-use Rattle.completion.specs.View.{view, tally, Ready}
+use Rattle.completion.specs.View.{step_of, view, tally, Ready}
 
 pub pad_get : {X : Type 0} (x d : X) (xs : List X) (n : ℕ) → 0 < n → get_or (x ∷ xs) n d ≡ get_or xs (n - 1) d
 pad_get x d xs zero h = absurd (omega arith)
@@ -35,6 +38,10 @@ getD_same x zero b = refl
 getD_same x (suc n) zero = refl
 getD_same x (suc n) (suc b) = getD_same x n b
 
+-- how a link was reached, read at its place
+pub step_read : (tree : Tree) (n k : ℕ) → 0 < n → k ≡ n - 1 → get_or tree.steps k no_step ≡ step_of tree n
+step_read tree n k h is = ap (λ i. get_or tree.steps i no_step) is ∙ sym (pad_get no_step no_step tree.steps n h)
+
 module _ {C : Type 0} (rank : C → ℕ) (begin : ℕ) where
   label_is : (labels : List C) (tree : Tree) (n : ℕ) → 0 < n → (view rank begin labels tree).label n ≡ label (map rank labels) n
   unfolding view
@@ -42,45 +49,43 @@ module _ {C : Type 0} (rank : C → ℕ) (begin : ℕ) where
   label_is labels tree (suc n) h = refl
 
   -- a cost that was read at a link's place
-  pub label_at : (labels : List C) (tree : Tree) (n : ℕ) (x : C) → 0 < n → n - 1 < length labels → x ≡ get_or labels (n - 1) x → (view rank begin labels tree).label n ≡ rank x
-  label_at labels tree n x h l e = label_is labels tree n h ∙ label_read rank labels n x h l e
+  pub label_at : (labels : List C) (tree : Tree) (n k : ℕ) (x : C) → 0 < n → k ≡ n → n - 1 < length labels → x ≡ get_or labels (k - 1) x → (view rank begin labels tree).label n ≡ rank x
+  label_at labels tree n k x h is l e = label_is labels tree n h ∙ label_read rank labels n x h l (e ∙ ap (λ i. get_or labels (i - 1) x) is)
 
   pub label_none : (labels : List C) (tree : Tree) → (view rank begin labels tree).label 0 ≡ begin
   unfolding view
   label_none labels tree = refl
 
-  pub depth_at : (labels : List C) (tree : Tree) (n : ℕ) → 0 < n → (view rank begin labels tree).depth n ≡ get_or tree.depth (n - 1) 0
+  pub depth_at : (labels : List C) (tree : Tree) (n k : ℕ) → 0 < n → k ≡ n - 1 → (view rank begin labels tree).depth n ≡ (get_or tree.steps k no_step).depth
   unfolding view
-  depth_at labels tree n h = pad_get 0 0 tree.depth n h
+  depth_at labels tree n k h is = ap (λ (x : Step). x.depth) (sym (step_read tree n k h is))
 
   pub depth_none : (labels : List C) (tree : Tree) → (view rank begin labels tree).depth 0 ≡ 0
   unfolding view
   depth_none labels tree = refl
 
-  pub before_at : (labels : List C) (tree : Tree) (n : ℕ) → 0 < n → (view rank begin labels tree).before n ≡ get_or tree.before (n - 1) 0
+  pub settled_at : (labels : List C) (tree : Tree) (n k : ℕ) → 0 < n → k ≡ n → (view rank begin labels tree).settled n ≡ get_or (false ∷ marks tree.settled) k false
   unfolding view
-  before_at labels tree n h = pad_get 0 0 tree.before n h
+  settled_at labels tree zero k h is = absurd (omega arith)
+  settled_at labels tree (suc n) k h is = ap (λ i. get_or (false ∷ marks tree.settled) i false) (sym is)
 
-  pub settled_at : (labels : List C) (tree : Tree) (n : ℕ) → 0 < n → (view rank begin labels tree).settled n ≡ get_or (false ∷ marks tree.settled) n false
-  unfolding view
-  settled_at labels tree zero h = absurd (omega arith)
-  settled_at labels tree (suc n) h = refl
-
-  module _ (labels : List C) (tree : Tree) (labels' : List C) (tree' : Tree) (t : ℕ) (c : C) (d b : ℕ) (some : 0 < t) (few : t ≤ 1024) (room : 1024 ≤ length labels)
-      (e1 : labels' ≡ set labels (t - 1) c) (e2 : tree'.depth ≡ set tree.depth (t - 1) d) (e3 : tree'.before ≡ set tree.before (t - 1) b) (e4 : tree'.settled ≡ tree.settled) where
-    pub put_view : Put t (rank c) d b (view rank begin labels tree) (view rank begin labels' tree')
+  module _ (labels : List C) (tree : Tree) (labels' : List C) (tree' : Tree) (t : ℕ) (c : C) (step : Step) (some : 0 < t) (few : t ≤ 1024) (room : 1024 ≤ length labels)
+      (e1 : labels' ≡ set labels (t - 1) c) (e2 : tree'.steps ≡ set tree.steps (t - 1) step) (e4 : tree'.settled ≡ tree.settled) where
+    pub put_view : Put t (rank c) step.depth step.before (view rank begin labels tree) (view rank begin labels' tree')
     unfolding view
     put_view =
         let within : t - 1 < length labels = omega arith in
-        let deep : t - 1 < length tree.depth = omega (arith, tree.deep) in
-        let back : t - 1 < length tree.before = omega (arith, tree.back) in
+        let inside : t - 1 < length tree.steps = omega (arith, tree.all) in
+        let here = ap (λ (xs : List Step). get_or (no_step ∷ xs) t no_step) e2 ∙ pad_same no_step no_step step tree.steps t some inside in
+        let there : (k : ℕ) → k ≢ t → get_or (no_step ∷ tree'.steps) k no_step ≡ get_or (no_step ∷ tree.steps) k no_step =
+        λ k ne. ap (λ (xs : List Step). get_or (no_step ∷ xs) k no_step) e2 ∙ pad_other no_step no_step step tree.steps t k some ne in
         record {
           label = label_is labels' tree' t some ∙ ap (λ x. label (map rank x) t) e1 ∙ label_written rank labels t c some within;
-          depth = ap (λ x. get_or (0 ∷ x) t 0) e2 ∙ pad_same 0 0 d tree.depth t some deep;
-          before = ap (λ x. get_or (0 ∷ x) t 0) e3 ∙ pad_same 0 0 b tree.before t some back;
+          depth = ap (λ (x : Step). x.depth) here;
+          before = ap (λ (x : Step). x.before) here;
           labels = λ k ne. other_label k ne;
-          depths = λ k ne. ap (λ x. get_or (0 ∷ x) k 0) e2 ∙ pad_other 0 0 d tree.depth t k some ne;
-          befores = λ k ne. ap (λ x. get_or (0 ∷ x) k 0) e3 ∙ pad_other 0 0 b tree.before t k some ne;
+          depths = λ k ne. ap (λ (x : Step). x.depth) (there k ne);
+          befores = λ k ne. ap (λ (x : Step). x.before) (there k ne);
           settled = λ k. ap (λ x. get_or (true ∷ marks x) k false) e4;
         }
       where
@@ -89,16 +94,15 @@ module _ {C : Type 0} (rank : C → ℕ) (begin : ℕ) where
         other_label (suc k) ne = ap (λ x. label (map rank x) (suc k)) e1 ∙ label_kept rank labels t (suc k) c some ne
 
     -- the frontier follows
-    pub put_ready : 0 < d → (view rank begin labels tree).settled t ≡ false → Ready rank begin labels tree → Sound (map rank labels') tree'.frontier → Changed tree.frontier tree'.frontier t true → Ready rank begin labels' tree'
-    put_ready deep left ready sound changed =
+    pub put_ready : (nodes nodes' : Tournament) → 0 < step.depth → (view rank begin labels tree).settled t ≡ false → Ready rank begin labels tree nodes → Changed nodes nodes' t true → Ready rank begin labels' tree' nodes'
+    put_ready nodes nodes' deep left ready changed =
         let p = put_view in
         record {
-          sound = sound;
           waiting = λ n. ⊎_elim
-              (λ (e : n ≡ t). ap (λ x. waits tree'.frontier x) e ∙ changed.here
+              (λ (e : n ≡ t). ap (λ x. waits nodes' x) e ∙ changed.here
               ∙ sym (ap (λ x. ltb 0 ((view rank begin labels' tree').depth x) && not ((view rank begin labels' tree').settled x)) e
               ∙ ap (λ x. ltb 0 x && not ((view rank begin labels' tree').settled t)) p.depth
-              ∙ ap (λ x. x && not ((view rank begin labels' tree').settled t)) (lt-ltb 0 d deep)
+              ∙ ap (λ x. x && not ((view rank begin labels' tree').settled t)) (lt-ltb 0 step.depth deep)
               ∙ ap (λ x. not x) (p.settled t ∙ left)))
               (λ ne. changed.others n ne ∙ ready.waiting n
               ∙ sym (ap (λ x. ltb 0 x && not ((view rank begin labels' tree').settled n)) (p.depths n ne)
@@ -107,7 +111,7 @@ module _ {C : Type 0} (rank : C → ℕ) (begin : ℕ) where
         }
 
   module _ (labels : List C) (tree tree' : Tree) (t : ℕ) (some : 0 < t) (few : t ≤ 1024)
-      (e1 : marks tree'.settled ≡ marked (marks tree.settled) t true) (e2 : tree'.depth ≡ tree.depth) (e3 : tree'.before ≡ tree.before) where
+      (e1 : marks tree'.settled ≡ marked (marks tree.settled) t true) (e2 : tree'.steps ≡ tree.steps) where
     marks_now : marks tree'.settled ≡ set (marks tree.settled) (t - 1) true
     marks_now = e1 ∙ marked_set (marks tree.settled) t true some
 
@@ -119,17 +123,16 @@ module _ {C : Type 0} (rank : C → ℕ) (begin : ℕ) where
           done = ap (λ x. get_or (true ∷ x) t false) marks_now ∙ pad_same true false true (marks tree.settled) t some within;
           others = λ k ne. ap (λ x. get_or (true ∷ x) k false) marks_now ∙ pad_other true false true (marks tree.settled) t k some ne;
           labels = λ k. refl;
-          depths = λ k. ap (λ x. get_or (0 ∷ x) k 0) e2;
-          befores = λ k. ap (λ x. get_or (0 ∷ x) k 0) e3;
+          depths = λ k. ap (λ (xs : List Step). (get_or (no_step ∷ xs) k no_step).depth) e2;
+          befores = λ k. ap (λ (xs : List Step). (get_or (no_step ∷ xs) k no_step).before) e2;
         }
 
-    pub settle_ready : Ready rank begin labels tree → Sound (map rank labels) tree'.frontier → Changed tree.frontier tree'.frontier t false → Ready rank begin labels tree'
-    settle_ready ready sound changed =
+    pub settle_ready : (nodes nodes' : Tournament) → Ready rank begin labels tree nodes → Changed nodes nodes' t false → Ready rank begin labels tree' nodes'
+    settle_ready nodes nodes' ready changed =
         let u = settle_view in
         record {
-          sound = sound;
           waiting = λ n. ⊎_elim
-              (λ (e : n ≡ t). ap (λ x. waits tree'.frontier x) e ∙ changed.here
+              (λ (e : n ≡ t). ap (λ x. waits nodes' x) e ∙ changed.here
               ∙ sym (and_right (ltb 0 ((view rank begin labels tree').depth n)) (not ((view rank begin labels tree').settled n))
               (not_from_true _ (ap (λ x. (view rank begin labels tree').settled x) e ∙ u.done))))
               (λ ne. changed.others n ne ∙ ready.waiting n
@@ -155,23 +158,22 @@ module _ {C : Type 0} (rank : C → ℕ) (begin : ℕ) where
   pub tally_few : (tree : Tree) → tally tree ≤ 1024
   tally_few tree = omega (arith, count_by-le-length (λ b. b) (marks tree.settled), length_marks tree.settled)
 
-  module _ (labels : List C) (tree : Tree) (e1 : tree.depth ≡ replicate 1024 0) (e2 : marks tree.settled ≡ replicate 1024 false) where
+  module _ (labels : List C) (tree : Tree) (e1 : tree.steps ≡ replicate 1024 no_step) (e2 : marks tree.settled ≡ replicate 1024 false) where
     pub clear_depth : (b : ℕ) → (view rank begin labels tree).depth b ≡ 0
     unfolding view
-    clear_depth b = ap (λ x. get_or (0 ∷ x) b 0) e1 ∙ getD_same 0 1025 b
+    clear_depth b = ap (λ (x : Step). x.depth) (ap (λ (xs : List Step). get_or (no_step ∷ xs) b no_step) e1 ∙ getD_same no_step 1025 b)
 
     pub clear_fresh : (g : Graph) → begin ≡ g.begin → Fresh g (view rank begin labels tree)
     unfolding view
     clear_fresh g e = record {
       source = refl;
       begin = e;
-      none = λ b h. settled_at labels tree b h ∙ ap (λ x. get_or (false ∷ x) b false) e2 ∙ getD_same false 1025 b;
+      none = λ b h. settled_at labels tree b b h refl ∙ ap (λ x. get_or (false ∷ x) b false) e2 ∙ getD_same false 1025 b;
       unlabelled = clear_depth;
     }
 
-    pub clear_ready : ((ls : List ℕ) → Sound ls tree.frontier) → NoneWaits tree.frontier → Ready rank begin labels tree
-    clear_ready sound none = record {
-      sound = sound (map rank labels);
+    pub clear_ready : (nodes : Tournament) → NoneWaits nodes → Ready rank begin labels tree nodes
+    clear_ready nodes none = record {
       waiting = λ n. none n ∙ sym (ap (λ x. ltb 0 x && not ((view rank begin labels tree).settled n)) (clear_depth n));
     }
 
@@ -179,40 +181,38 @@ module _ {C : Type 0} (rank : C → ℕ) (begin : ℕ) where
     clear_tally = ap (λ x. count_by (λ b. b) x) e2
 
   -- what the frontier has is no part of the state
-  pub view_same : (labels : List C) (tree tree' : Tree) → tree'.depth ≡ tree.depth → tree'.before ≡ tree.before → tree'.settled ≡ tree.settled
+  pub view_same : (labels : List C) (tree tree' : Tree) → tree'.steps ≡ tree.steps → tree'.settled ≡ tree.settled
       → view rank begin labels tree' ≡ view rank begin labels tree
   unfolding view
-  view_same labels tree tree' d b s =
-      ap (λ (x : List ℕ). made x tree'.before (marks tree'.settled)) d
-      ∙ ap (λ (x : List ℕ). made tree.depth x (marks tree'.settled)) b
-      ∙ ap (λ (x : LinkSet). made tree.depth tree.before (marks x)) s
+  view_same labels tree tree' e s =
+      ap (λ (xs : List Step). made xs (marks tree'.settled)) e ∙ ap (λ (x : LinkSet). made tree.steps (marks x)) s
     where
-      made : List ℕ → List ℕ → List Bool → State
-      made ds bs ms = record {
+      made : List Step → List Bool → State
+      made xs ms = record {
         label = λ n. get_or (begin ∷ map rank labels) n 0;
-        depth = λ n. get_or (0 ∷ ds) n 0;
-        before = λ n. get_or (0 ∷ bs) n 0;
+        depth = λ n. (get_or (no_step ∷ xs) n no_step).depth;
+        before = λ n. (get_or (no_step ∷ xs) n no_step).before;
         settled = λ n. get_or (true ∷ ms) n false;
       }
 
   -- the link that the frontier has as its least is the least of the state
-  module _ (labels : List C) (tree : Tree) (ready : Ready rank begin labels tree) where
-    waits_open : (n : ℕ) → waits tree.frontier n ≡ true → (0 < (view rank begin labels tree).depth n) × ((view rank begin labels tree).settled n ≡ false)
+  module _ (labels : List C) (tree : Tree) (nodes : Tournament) (ready : Ready rank begin labels tree nodes) where
+    waits_open : (n : ℕ) → waits nodes n ≡ true → (0 < (view rank begin labels tree).depth n) × ((view rank begin labels tree).settled n ≡ false)
     waits_open n e =
         let p = and_parts (ltb 0 ((view rank begin labels tree).depth n)) (not ((view rank begin labels tree).settled n)) (sym (ready.waiting n) ∙ e) in
         (ltb-true 0 _ p.0, not-true _ p.1)
 
-    open_waits : (n : ℕ) → 0 < (view rank begin labels tree).depth n → (view rank begin labels tree).settled n ≡ false → waits tree.frontier n ≡ true
+    open_waits : (n : ℕ) → 0 < (view rank begin labels tree).depth n → (view rank begin labels tree).settled n ≡ false → waits nodes n ≡ true
     open_waits n d s = ready.waiting n ∙ and_from _ _ (lt-ltb 0 _ d) (not_from_false _ s)
 
-    pub least_is : (t : ℕ) → waiting.Least (map rank labels) tree.frontier t → Least (view rank begin labels tree) t
+    pub least_is : (t : ℕ) → waiting.Least (map rank labels) nodes t → Least (view rank begin labels tree) t
     least_is t l = let o = waits_open t l.waiting in record {
       some = o.0;
       left = o.1;
       least = λ b d s. let w = open_waits b d s in
-          omega (arith, label_is labels tree t l.low, label_is labels tree b (waits_own tree.frontier b w).0, l.least b w);
+          omega (arith, label_is labels tree t l.low, label_is labels tree b (waits_own nodes b w).0, l.least b w);
     }
 
-    pub none_left : NoneWaits tree.frontier → AllSettled (view rank begin labels tree)
+    pub none_left : NoneWaits nodes → AllSettled (view rank begin labels tree)
     none_left none b d =
-        ⊎_elim (λ e. e) (λ e. absurd (both_ways (waits tree.frontier b) (none b) (open_waits b d e))) (cases_Bool ((view rank begin labels tree).settled b))
+        ⊎_elim (λ e. e) (λ e. absurd (both_ways (waits nodes b) (none b) (open_waits b d e))) (cases_Bool ((view rank begin labels tree).settled b))

@@ -6,10 +6,15 @@
 --     stop s a             the node that a way stands at
 --     blocked s a b        link b may not come next
 --     open_turn plan a b   the turn from a into b is not barred; there is none where a is 0
+--     turn_from turns a b  the turn from a into b, if there is one
+--     step_over m c t l    the rank after a turn, if there is one, and a link
 --     step_from m plan c a b   the rank after the turn from a into b, if there is one, and then b
 --     graph m s            the ways of a setting, as a measure ranks them
+--     ways ranks rank quest    the ways of a quest of the code
 use Rattle.std.specs.Prelude.{ℕ, zero, suc, Bool, true, false, not, ◌&&◌, ◌||◌, List, ◌∷◌, length, Some, None, Option, ◌==◌, nat_lt, slice_index_or}
 use Rattle.std.specs.Option.{option_map}
+use Rattle.network.specs.declared.link.Link.{Link}
+use Rattle.network.specs.declared.turn.Turn.{Turn}
 use Rattle.network.specs.Plan.{Plan, link, laid}
 use Rattle.network.specs.Laid.{plan}
 use Rattle.network.specs.Marks.{marks}
@@ -31,7 +36,7 @@ pub record Setting : Type 0 where
   pub to : ℕ
   pub bound : Option ℕ
 
-abbrev pub setting : {C : Type 0} → (C → ℕ) → Quest C → Setting
+abbrev pub setting : {M C : Type 0} → (C → ℕ) → Quest M C → Setting
 setting rank quest = record {
   plan = plan quest.network.now;
   banned = marks quest.banned.now;
@@ -62,6 +67,14 @@ abbrev pub open_turn : Plan → (a b : ℕ) → Bool
 open_turn plan zero b = true
 open_turn plan (suc a) b = not ((turn plan.turns (suc a) b).class == barred)
 
+abbrev pub turn_from : List Turn → (a b : ℕ) → Option Turn
+turn_from turns zero b = None
+turn_from turns (suc a) b = Some (turn turns (suc a) b)
+
+abbrev pub step_over : Ranks → (c : ℕ) → Option Turn → Link → ℕ
+step_over m c None link = m.over_link c link
+step_over m c (Some t) link = m.over_link (m.over_turn c t.class t.extra) link
+
 abbrev pub step_from : Ranks → Plan → (c a b : ℕ) → ℕ
 step_from m plan c zero b = m.over_link c (link plan.links b)
 step_from m plan c (suc a) b = step m plan c (suc a) b
@@ -80,3 +93,6 @@ graph m s = record {
   goal = λ b. ((link s.plan.links b).end == s.to);
   dear = too_dear s.bound;
 }
+
+abbrev pub ways : {M C : Type 0} → (M → Ranks) → (C → ℕ) → Quest M C → Graph
+ways ranks rank quest = graph (ranks quest.measure.now) (setting rank quest)

@@ -1,16 +1,15 @@
 // The cheapest completion of a beginning.
 ghost use Rattle.std.specs.Prelude.{◌≡◌, ℕ, ◌-◌, ◌<◌, ◌≤◌, length, slice_index_or};
 ghost use Rattle.network.specs.Marks.{marks};
-ghost use Rattle.measure.specs.Cost.{cost};
 ghost use Rattle.routing.specs.Lent.{lent};
 ghost use Rattle.routing.specs.Route.{last_of};
-ghost use Rattle.completion.specs.Completion.{Begins, end_of, Bans, Completed};
+ghost use Rattle.completion.specs.Completion.{end_of, Completed};
 
-use crate::beginning::{Beginning, Trip};
+use crate::beginning::Beginning;
 use crate::growing::grow;
 use crate::onward::is_dear;
 use crate::quest::Quest;
-use crate::tree::Tree;
+use crate::search::Search;
 use crate::way::write_route;
 use measure::Measure;
 use routing::Found;
@@ -19,70 +18,50 @@ use routing::Found;
 fn last_link(links: &[u16]) -> u16
     ensures { result ≡ last_of 0 links.now }
 {
-    if links.is_empty() {
-        0
-    } else {
-        links[links.len() - 1]
-    }
+    links.last().copied().unwrap_or(0)
 }
 
 // The node at which a beginning ends: the origin, where it has no links.
-fn end_node(trip: Trip<'_>, links: &[u16]) -> u16
-    requires { Begins (lent trip.roads) trip.from links.now }
-    ensures { result ≡ end_of (lent trip.entry.roads) trip.entry.from links.now }
+fn end_node<M: Measure>(beginning: &Beginning<'_, M>) -> u16
+    ensures { result ≡ end_of (lent beginning.now.trip.roads) beginning.now.trip.from beginning.now.links.now }
 {
-    let last = last_link(links);
-    if last == 0 {
-        return trip.from;
+    let trip = beginning.trip;
+    // A match: of a closure whose call has a `requires` the proof learns nothing.
+    match beginning.links.last() {
+        Some(last) => trip.roads.link(*last).end,
+        None => trip.from,
     }
-    trip.roads.network.links()[last as usize - 1].end
-}
-
-// The label of a link.
-fn label_of<C: Copy>(labels: &[C], number: u16) -> C
-    requires { (0 < number) × (number ≤ length labels.now) }
-    ensures { result ≡ slice_index_or labels.now (number - 1) result }
-{
-    labels[number as usize - 1]
 }
 
 // A cheapest completion of a beginning that costs less than the bound, written to the line after the beginning, with zeros
-// after it. It works in the labels and the tree, and leaves there whatever it came to.
+// after it. The search forgets what it had found out before.
 pub fn complete<M: Measure>(
-    measure: &M,
-    trip: Trip<'_>,
-    beginning: Beginning<'_, M::Cost>,
+    beginning: &Beginning<'_, M>,
     bound: Option<M::Cost>,
-    labels: &mut [M::Cost],
-    tree: &mut Tree,
-    line: &mut [u16],
+    search: &mut Search<'_, M>,
+    line: &mut [u16; 1024],
 ) -> Option<Found<M::Cost>>
-    requires room { (1024 ≤ length labels.old) × (length line.old ≡ 1024) }
-    requires begins { Begins (lent trip.roads) trip.from beginning.links.now }
-    requires priced { M.Measure.rank beginning.cost ≡ cost (M.Measure.ranks measure.now) (lent trip.roads).plan beginning.links.now }
-    requires bans { Bans (lent trip.roads) beginning.links.now (marks beginning.banned.now) }
-    ensures { Completed M.Measure.rank (M.Measure.ranks measure.now) (lent trip.entry.roads) trip.entry.from trip.entry.to
-        beginning.entry.links.now (marks beginning.entry.forbidden.now) bound line.old result line.new }
+    ensures { Completed M.Measure.rank (M.Measure.ranks beginning.now.measure.now) (lent beginning.now.trip.roads)
+        beginning.now.trip.from beginning.now.trip.to beginning.now.links.now (marks beginning.now.forbidden.now) bound line.old result line.new }
 {
-    if is_dear(measure, bound, beginning.cost) {
+    if is_dear(beginning.measure, bound, beginning.cost) {
         return None;
     }
     let quest = Quest {
-        network: trip.roads.network,
+        measure: beginning.measure,
+        network: beginning.trip.roads.network,
         banned: beginning.banned,
         forbidden: beginning.forbidden,
-        node: end_node(trip, beginning.links),
+        node: end_node(beginning),
         after: last_link(beginning.links),
         cost: beginning.cost,
-        to: trip.to,
+        to: beginning.trip.to,
         bound,
     };
-    let Some(number) = grow(measure, &quest, labels, tree) else {
-        return None;
-    };
-    let count = write_route(tree, beginning.links, number, line);
+    let number = grow(&quest, search)?;
+    let count = write_route(&search.tree, beginning.links, number, line);
     Some(Found {
-        cost: label_of(labels, number),
+        cost: search.frontier.label(number),
         count,
     })
 }

@@ -1,27 +1,22 @@
 // Growing the ways onward from a beginning, the cheapest first.
 ghost use Rattle.std.specs.Prelude.{◌≡◌, ℕ, ◌+◌, ◌≤◌, length};
+ghost use Rattle.std.specs.Option.{option_map};
 ghost use Rattle.network.specs.Laid.{plan};
 ghost use Rattle.completion.specs.Growth.{Inv};
-ghost use Rattle.completion.specs.Onward.{setting, graph};
-ghost use Rattle.completion.specs.View.{view, tally, Growing, Ends};
+ghost use Rattle.completion.specs.Onward.{ways};
+ghost use Rattle.completion.specs.View.{state, tally, Grows, Ends};
 
 use crate::quest::{Quest, Stand};
 use crate::relaxing::relax_from;
-use crate::tree::Tree;
+use crate::search::Search;
+use frontier::LinkNumber;
 use measure::Measure;
 
 // Starts anew: labels the links that may come straight after the beginning.
-fn set_out<M: Measure>(
-    measure: &M,
-    quest: &Quest<'_, '_, M::Cost>,
-    labels: &mut [M::Cost],
-    tree: &mut Tree,
-)
-    requires room { 1024 ≤ length labels.old }
-    ensures { Growing M.Measure.rank (graph (M.Measure.ranks measure.now) (setting M.Measure.rank quest.now)) 0
-        (length (plan quest.now.network.now).links + 1) (M.Measure.rank quest.now.cost) labels.new tree.new }
+fn set_out<M: Measure>(quest: &Quest<'_, '_, M>, search: &mut Search<'_, M>)
+    ensures { Grows M.Measure.ranks M.Measure.rank quest.now 0 (length (plan quest.now.network.now).links + 1) search.new }
 {
-    tree.clear();
+    search.clear();
     let stand = Stand {
         number: 0,
         after: quest.after,
@@ -29,42 +24,37 @@ fn set_out<M: Measure>(
         cost: quest.cost,
         depth: 0,
     };
-    relax_from(measure, quest, labels, tree, stand);
+    relax_from(quest, search, stand);
 }
 
 // Labels links, the cheapest ways first, until one ends at the goal whose label is the least, and answers it; or until no
-// labelled link is left.
+// labelled link is left: no range and no list tells beforehand which links the loop takes.
 pub(crate) fn grow<M: Measure>(
-    measure: &M,
-    quest: &Quest<'_, '_, M::Cost>,
-    labels: &mut [M::Cost],
-    tree: &mut Tree,
-) -> Option<u16>
-    requires room { 1024 ≤ length labels.old }
-    ensures ends { Ends (graph (M.Measure.ranks measure.now) (setting M.Measure.rank quest.now))
-        (view M.Measure.rank (M.Measure.rank quest.now.cost) labels.new tree.new) result }
-    ensures inv { (s : ℕ) × Inv (graph (M.Measure.ranks measure.now) (setting M.Measure.rank quest.now)) s
-        (length (plan quest.now.network.now).links + 1) (tally tree.new)
-        (view M.Measure.rank (M.Measure.rank quest.now.cost) labels.new tree.new) }
+    quest: &Quest<'_, '_, M>,
+    search: &mut Search<'_, M>,
+) -> Option<LinkNumber>
+    ensures ends { Ends (ways M.Measure.ranks M.Measure.rank quest.now)
+        (state M.Measure.rank quest.now search.new) (option_map (λ link. link.number) result) }
+    ensures inv { (s : ℕ) × Inv (ways M.Measure.ranks M.Measure.rank quest.now) s
+        (length (plan quest.now.network.now).links + 1) (tally search.new.tree)
+        (state M.Measure.rank quest.now search.new) }
 {
-    set_out(measure, quest, labels, tree);
+    set_out(quest, search);
     loop {
-        let Some(number) = tree.take_least(measure, labels) else {
-            return None;
-        };
-        let at = number as usize - 1;
+        let link = search.frontier.take_least(quest.measure)?;
+        let at = link.place();
         let end = quest.network.links()[at].end;
         if end == quest.to {
-            return Some(number);
+            return Some(link);
         }
-        tree.settle(number);
+        search.tree.settle(link);
         let stand = Stand {
-            number,
-            after: number,
+            number: link.number,
+            after: link.number,
             node: end,
-            cost: labels[at],
-            depth: tree.depth[at],
+            cost: search.frontier.label(link),
+            depth: search.tree.steps[at].depth,
         };
-        relax_from(measure, quest, labels, tree, stand);
+        relax_from(quest, search, stand);
     }
 }

@@ -7,10 +7,13 @@ mod growing;
 mod onward;
 mod quest;
 mod relaxing;
+mod search;
+mod searches;
 mod tree;
 mod trees;
 mod way;
 
 pub use beginning::{Beginning, Trip};
 pub use completing::complete;
-pub use tree::Tree;
+pub use onward::{cost_after, is_dear};
+pub use search::Search;

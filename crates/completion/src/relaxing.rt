@@ -1,44 +1,48 @@
 // Going on from where a way stands to each link that may come next.
-ghost use Rattle.std.specs.Prelude.{◌≡◌, ℕ, ◌+◌, ◌<◌, ◌≤◌, map, length};
+ghost use Rattle.std.specs.Prelude.{◌≡◌, ◌+◌, length};
 ghost use Rattle.network.specs.Plan.{Laid, link};
 ghost use Rattle.network.specs.Laid.{plan};
-ghost use Rattle.frontier.specs.Tournament.{Sound};
 ghost use Rattle.completion.specs.Growth.{Relaxed, Latest};
-ghost use Rattle.completion.specs.Onward.{setting, stop, graph};
-ghost use Rattle.completion.specs.View.{view, Ready, Growing, Stands, Tried};
+ghost use Rattle.completion.specs.Onward.{setting, stop, ways};
+ghost use Rattle.completion.specs.View.{state, IsReady, Grows, StandsAt, Tried};
 
 use crate::onward::{cost_on, is_blocked, is_dear};
 use crate::quest::{Quest, Stand};
-use crate::tree::Tree;
+use crate::search::Search;
+use crate::tree::Step;
+use frontier::LinkNumber;
 use measure::Measure;
 
 // What a way costs after it went on to a link, where it may and where no way to that link is known that costs no more.
 fn tried<M: Measure>(
-    measure: &M,
-    quest: &Quest<'_, '_, M::Cost>,
-    labels: &[M::Cost],
-    tree: &Tree,
+    quest: &Quest<'_, '_, M>,
+    search: &Search<'_, M>,
     stand: Stand<M::Cost>,
-    number: u16,
+    next: LinkNumber,
 ) -> Option<M::Cost>
-    requires laid { Laid (plan quest.now.network.now).links number }
-    requires starts { (link (plan quest.now.network.now).links number).start ≡ stop (setting M.Measure.rank quest.now) stand.number }
-    requires room { 1024 ≤ length labels.now }
-    requires stands { Stands M.Measure.rank (setting M.Measure.rank quest.now) labels.now tree.now stand }
-    ensures { Tried M.Measure.rank (graph (M.Measure.ranks measure.now) (setting M.Measure.rank quest.now))
-        (view M.Measure.rank (M.Measure.rank quest.now.cost) labels.now tree.now) stand.number number result }
+    requires laid { Laid (plan quest.now.network.now).links next.number }
+    requires starts { (link (plan quest.now.network.now).links next.number).start ≡ stop (setting M.Measure.rank quest.now) stand.number }
+    requires stands { StandsAt M.Measure.rank quest.now search.now stand }
+    ensures { Tried M.Measure.rank (ways M.Measure.ranks M.Measure.rank quest.now)
+        (state M.Measure.rank quest.now search.now) stand.number next.number result }
 {
-    if is_blocked(quest, stand.number, number) || tree.settled.has(number as usize) {
+    if is_blocked(quest, stand.number, next.number)
+        || search.tree.settled.has(usize::from(next.number))
+    {
         return None;
     }
-    let Some(cost) = cost_on(measure, quest.network, stand.after, stand.cost, number) else {
-        return None;
-    };
-    if is_dear(measure, quest.bound, cost) {
+    let cost = cost_on(
+        quest.measure,
+        quest.network,
+        stand.after,
+        stand.cost,
+        next.number,
+    )?;
+    if is_dear(quest.measure, quest.bound, cost) {
         return None;
     }
-    let at = number as usize - 1;
-    if tree.depth[at] > 0 && !measure.is_cheaper(cost, labels[at]) {
+    let known = search.tree.steps[next.place()].depth > 0;
+    if known && !quest.measure.is_cheaper(cost, search.frontier.label(next)) {
         return None;
     }
     Some(cost)
@@ -46,49 +50,48 @@ fn tried<M: Measure>(
 
 // Goes on to a link, and labels it where that is a better way.
 fn relax_one<M: Measure>(
-    measure: &M,
-    quest: &Quest<'_, '_, M::Cost>,
-    labels: &mut [M::Cost],
-    tree: &mut Tree,
+    quest: &Quest<'_, '_, M>,
+    search: &mut Search<'_, M>,
     stand: Stand<M::Cost>,
-    number: u16,
+    next: LinkNumber,
 )
-    requires laid { Laid (plan quest.now.network.now).links number }
-    requires starts { (link (plan quest.now.network.now).links number).start ≡ stop (setting M.Measure.rank quest.now) stand.number }
-    requires room { 1024 ≤ length labels.old }
-    requires stands { Stands M.Measure.rank (setting M.Measure.rank quest.now) labels.old tree.old stand }
-    requires ready { Ready M.Measure.rank (M.Measure.rank quest.now.cost) labels.old tree.old }
-    ensures relaxed { Relaxed (graph (M.Measure.ranks measure.now) (setting M.Measure.rank quest.now)) stand.number number
-        (view M.Measure.rank (M.Measure.rank quest.now.cost) labels.old tree.old)
-        (view M.Measure.rank (M.Measure.rank quest.now.cost) labels.new tree.new) }
-    ensures ready { Ready M.Measure.rank (M.Measure.rank quest.now.cost) labels.new tree.new }
-    ensures settled { tree.new.settled ≡ tree.old.settled }
+    requires laid { Laid (plan quest.now.network.now).links next.number }
+    requires starts { (link (plan quest.now.network.now).links next.number).start ≡ stop (setting M.Measure.rank quest.now) stand.number }
+    requires stands { StandsAt M.Measure.rank quest.now search.old stand }
+    requires ready { IsReady M.Measure.rank quest.now search.old }
+    ensures relaxed { Relaxed (ways M.Measure.ranks M.Measure.rank quest.now) stand.number next.number
+        (state M.Measure.rank quest.now search.old)
+        (state M.Measure.rank quest.now search.new) }
+    ensures ready { IsReady M.Measure.rank quest.now search.new }
+    ensures settled { search.new.tree.settled ≡ search.old.tree.settled }
 {
-    if let Some(cost) = tried(measure, quest, labels, tree, stand, number) {
-        tree.put(measure, labels, number, cost, stand.depth + 1, stand.number);
+    if let Some(cost) = tried(quest, search, stand, next) {
+        let step = Step {
+            depth: stand.depth + 1,
+            before: stand.number,
+        };
+        search.frontier.relabel(quest.measure, next, cost);
+        search.tree.put(next, step);
     }
 }
 
 // Goes on to each link that may come next. The way stands at what was settled last, and nothing after it was looked at yet.
 pub(crate) fn relax_from<M: Measure>(
-    measure: &M,
-    quest: &Quest<'_, '_, M::Cost>,
-    labels: &mut [M::Cost],
-    tree: &mut Tree,
+    quest: &Quest<'_, '_, M>,
+    search: &mut Search<'_, M>,
     stand: Stand<M::Cost>,
 )
-    requires room { 1024 ≤ length labels.old }
-    requires stands { Stands M.Measure.rank (setting M.Measure.rank quest.now) labels.old tree.old stand }
-    requires growing { Growing M.Measure.rank (graph (M.Measure.ranks measure.now) (setting M.Measure.rank quest.now)) stand.number 1 (M.Measure.rank quest.now.cost) labels.old tree.old }
-    requires late { Latest stand.number (view M.Measure.rank (M.Measure.rank quest.now.cost) labels.old tree.old) }
-    ensures growing { Growing M.Measure.rank (graph (M.Measure.ranks measure.now) (setting M.Measure.rank quest.now)) stand.number
-        (length (plan quest.now.network.now).links + 1) (M.Measure.rank quest.now.cost) labels.new tree.new }
-    ensures settled { tree.new.settled ≡ tree.old.settled }
+    requires stands { StandsAt M.Measure.rank quest.now search.old stand }
+    requires growing { Grows M.Measure.ranks M.Measure.rank quest.now stand.number 1 search.old }
+    requires late { Latest stand.number (state M.Measure.rank quest.now search.old) }
+    ensures growing { Grows M.Measure.ranks M.Measure.rank quest.now stand.number (length (plan quest.now.network.now).links + 1) search.new }
+    ensures settled { search.new.tree.settled ≡ search.old.tree.settled }
 {
     let node = u32::from(stand.node);
     let first = quest.network.links_below(node);
     let end = quest.network.links_below(node + 1);
+    // A link's number is what is sought, and a link in the list does not tell it.
     for place in first..end {
-        relax_one(measure, quest, labels, tree, stand, place as u16 + 1);
+        relax_one(quest, search, stand, LinkNumber::at(place));
     }
 }

@@ -1,8 +1,9 @@
 -- A text cut at its first blank.
-use Rattle.std.proofs.Common.{◌≡◌, ℕ, zero, suc, ◌+◌, ◌<◌, eqb, List, [], ◌∷◌, ◌++◌, length, get_or, take, drop, Some, None, Option, sym, refl, ap, ◌∙◌, subst, inl, inr, suc-add, arith}
-use Rattle.std.proofs.lemmas.Bool.{eq-eqb, ne_eqb, eqb-true, cases_Bool, cond-true, cond-false}
+use Rattle.std.proofs.Common.{◌≡◌, ℕ, suc, ◌<◌, eqb, List, [], ◌∷◌, ◌++◌, length, get_or, Some, None, Option, sym, refl, ap, ◌∙◌, subst, inl, inr, arith}
+use Rattle.std.proofs.lemmas.Bool.{ne_eqb, eqb-true, cases_Bool, cond-true, cond-false}
 use Rattle.text.specs.Parts.{◌⊛◌, ◌and_then◌}
-use Rattle.console.specs.Cuts.{behind, cut}
+use Rattle.text.specs.Cuts.{behind, cut_at}
+use Rattle.console.specs.Cuts.{cut}
 
 pub some_same : {A : Type 0} {x y : A} → Some x ≡ Some y → x ≡ y
 some_same e = cc
@@ -32,27 +33,9 @@ pub then_parts : {A B : Type 0} (o : Option A) (f : A → Option B) (z : B) → 
 then_parts None f z e = never e
 then_parts (Some x) f z e = (x, refl, e)
 
--- i is the place of the first blank
-pub cut_at : (text : List ℕ) (i : ℕ) → i < length text → ((k : ℕ) → k < i → get_or text k 0 ≡ 32 → ⊥) → get_or text i 0 ≡ 32
-    → cut text ≡ Some (take i text, drop (i + 1) text)
-unfolding cut
-cut_at [] i inside before here = absurd (omega arith)
-cut_at (b ∷ text) zero inside before here = rw (eq-eqb b 32 here) refl
-cut_at (b ∷ text) (suc i) inside before here =
-    rw (ne_eqb b 32 (before 0 (omega arith)), suc-add)
-    (ap (λ (o : Option (List ℕ × List ℕ)). Some (behind b) ⊛ o) (cut_at text i (omega arith) (λ k h. before (suc k) (omega arith)) here))
-
--- a text with no blank is not cut
-pub cut_none : (text : List ℕ) → ((k : ℕ) → k < length text → get_or text k 0 ≡ 32 → ⊥) → cut text ≡ None
-unfolding cut
-cut_none [] none = refl
-cut_none (b ∷ text) none =
-    rw (ne_eqb b 32 (none 0 (omega arith)))
-    (ap (λ (o : Option (List ℕ × List ℕ)). Some (behind b) ⊛ o) (cut_none text (λ k h. none (suc k) (omega arith))))
-
 -- what is cut stood before and after a blank
 pub cut_says : (text : List ℕ) (p : List ℕ × List ℕ) → cut text ≡ Some p → text ≡ p.0 ++ (32 ∷ p.1)
-unfolding cut
+unfolding cut_at
 cut_says [] p e = never e
 cut_says (b ∷ text) p e =
     elim (cases_Bool (eqb b 32)) [
@@ -69,7 +52,7 @@ cut_says (b ∷ text) p e =
 
 -- a text is cut at the first of its blanks
 pub cut_read : (word rest : List ℕ) → ((k : ℕ) → k < length word → get_or word k 0 ≡ 32 → ⊥) → cut (word ++ (32 ∷ rest)) ≡ Some (word, rest)
-unfolding cut
+unfolding cut_at
 cut_read [] rest none = refl
 cut_read (b ∷ word) rest none =
     rw (ne_eqb b 32 (none 0 (omega arith)))

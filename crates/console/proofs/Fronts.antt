@@ -1,11 +1,11 @@
 -- Bytes written to the front of a buffer. Assumes nothing.
-use Rattle.std.proofs.Common.{◌≡◌, ℕ, ◌+◌, ◌^◌, ◌<◌, ◌≤◌, Bool, List, [], ◌∷◌, ◌++◌, length, take, drop, Some, Ok, Err, codes, decimal, MatchBool, Result, sym, refl, ap, ◌∙◌, subst, ap₂, append_assoc, arith, length-append}
+use Rattle.std.proofs.Common.{◌≡◌, ℕ, ◌+◌, ◌^◌, ◌<◌, ◌≤◌, Bool, List, [], ◌∷◌, ◌++◌, length, take, drop, Some, Ok, codes, decimal, MatchBool, Result, sym, refl, ap, ◌∙◌, subst, ap₂, append_assoc, arith, length-append}
 use Rattle.std.proofs.lemmas.List.{take_at, take-append-drop}
-use Rattle.std.proofs.lemmas.Bool.{lt-ltb, le-ltb}
+use Rattle.std.proofs.lemmas.Bool.{le-ltb}
 use Rattle.network.specs.declared.refusal.Refusal.{Refusal}
-use Rattle.network.specs.declared.refusal.Refusal.TheVariants.{BufferTooShort}
 use Rattle.network.specs.Refusals.{refusal_in}
-use Rattle.measure.specs.Put.{Put}
+use Rattle.text.specs.Put.{Put}
+use Rattle.text.proofs.Puts.{put_front}
 use Rattle.measure.proofs.Decimals.{length_long}
 use Rattle.console.specs.declared.reply.Reply.{Reply}
 use Rattle.console.specs.declared.reply.Reply.TheVariants.{Done, Refused, Cost, Route}
@@ -17,23 +17,9 @@ use Rattle.console.specs.Heads.{head, listed, whole}
 pub front_taken : (bytes rest whole : List ℕ) (n : ℕ) → n ≡ length bytes → whole ≡ bytes ++ rest → take n whole ≡ bytes
 front_taken bytes rest whole n long is = ap (take n) is ∙ take_at bytes rest n (sym long)
 
--- nothing is written
-pub put_none : (buffer : List ℕ) (at : ℕ) → at ≤ length buffer → Put [] buffer at buffer at
-put_none buffer at inside = record { ends = omega arith; fits = inside; holds = sym (take-append-drop at buffer) }
-
--- other bytes that are the same
-pub put_same : {one two before after : List ℕ} {at end : ℕ} → one ≡ two → Put one before at after end → Put two before at after end
-put_same {one} {two} {before} {after} {at} {end} same put = subst (λ (x : List ℕ). Put x before at after end) same put
-
 -- a word and a number end soon
 pub number_near : (word : List ℕ) (n : ℕ) {before after : List ℕ} {at end : ℕ} → n < 2 ^ 64 → Put (word ++ decimal n) before at after end → end ≤ at + (length word + 20)
 number_near word n {before} {after} {at} {end} small put = omega (arith, length-append word (decimal n), length_long n small, put.ends)
-
-pub refused_short : (bytes before : List ℕ) → length before < length bytes → Writes bytes before (Err BufferTooShort) before
-refused_short bytes before short =
-    subst (λ (b : Bool). MatchBool b ((refusal_in {A = ℕ} (Err BufferTooShort) ≡ Some 19) × (before ≡ before))
-    ((◌≡◌ {A = Result ℕ Refusal} (Err BufferTooShort) (Ok (length bytes))) × (before ≡ bytes ++ drop (length bytes) before)))
-    (sym (lt-ltb (length before) (length bytes) short)) (refl, refl)
 
 pub written_whole : (bytes before after : List ℕ) (n : ℕ) → Put bytes before 0 after n → Writes bytes before (Ok n) after
 written_whole bytes before after n put =
@@ -41,7 +27,7 @@ written_whole bytes before after n put =
     subst (λ (b : Bool). MatchBool b ((refusal_in (Ok n) ≡ Some 19) × (after ≡ before))
     ((◌≡◌ {A = Result ℕ Refusal} (Ok n) (Ok (length bytes))) × (after ≡ bytes ++ drop (length bytes) before)))
     (sym (le-ltb (length before) (length bytes) (omega (arith, put.fits))))
-    (ap (λ (x : ℕ). Ok x) end, put.holds ∙ ap (λ (x : ℕ). bytes ++ drop x before) end)
+    (ap (λ (x : ℕ). Ok x) end, put_front put ∙ ap (λ (x : ℕ). bytes ++ drop x before) end)
 
 regrouped : (a b c d e f g h i j z : List ℕ)
     → ((a ++ b) ++ ((c ++ d) ++ ((e ++ f) ++ ((g ++ h) ++ i)))) ++ (j ++ z) ≡ (a ++ b ++ c ++ d ++ e ++ f ++ g ++ h ++ i ++ j) ++ z

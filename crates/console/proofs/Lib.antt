@@ -2,4 +2,3 @@ pub mod Blanks
 pub mod Figures
 pub mod Sayings
 pub mod Fronts
-pub mod Listings

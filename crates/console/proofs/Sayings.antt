@@ -1,14 +1,14 @@
 -- The command that is read is the one that the line says.
-use Rattle.std.proofs.Common.{◌≡◌, ℕ, ◌-◌, ◌<◌, Bool, true, false, cond, ◌&&◌, eqb, ltb, ◌⊎◌, List, [], ◌∷◌, ◌++◌, length, get_or, take, drop, Some, None, codes, decimal, sym, refl, ap, ◌∙◌, subst, ap₂, inl, inr, arith}
+use Rattle.std.proofs.Common.{◌≡◌, ℕ, Bool, true, false, cond, ◌&&◌, eqb, ltb, ◌⊎◌, List, [], ◌∷◌, ◌++◌, length, Some, None, codes, decimal, sym, refl, ap, ◌∙◌, subst, ap₂, inl, inr, arith}
 use Rattle.std.specs.Str.{bytes_eq}
 use Rattle.std.proofs.lemmas.Slice.Eq.{bytes_eq-Decides}
-use Rattle.std.proofs.lemmas.List.{take_rest}
-use Rattle.std.proofs.lemmas.Bool.{and_parts, and_from, eqb-true, eq-eqb, lt-ltb, cond-true}
+use Rattle.std.proofs.lemmas.Bool.{and_parts, eqb-true, lt-ltb}
 use Rattle.text.specs.Numbers.{number_of}
 use Rattle.console.specs.declared.command.Command.{Command}
 use Rattle.console.specs.declared.command.Command.TheVariants.{Ask, Next, Trial, End, Close, Open, Turn}
 use Rattle.console.specs.Commands.{Short, Sayable, line_of, Says}
 use Rattle.text.specs.Parts.{◌⊛◌}
+use Rattle.text.specs.Cuts.{cut_at}
 use Rattle.console.specs.Cuts.{cut, ask, ask_of, lettered, turn, turn_of, on_link, command_by, command_of}
 use Rattle.console.proofs.Blanks.{some_same, never, two_parts, three_parts, then_parts, cut_says, cut_read}
 use Rattle.console.proofs.Figures.{number_says, number_read, no_blank}
@@ -18,12 +18,6 @@ cut_decimal : (n : ℕ) (rest : List ℕ) → Short n → cut (decimal n ++ (32 
 cut_decimal n rest small = cut_read (decimal n) rest (no_blank n small)
 
 -- the first byte, and what stands after the blank behind it
-pub lettered_at : (text : List ℕ) (letter : ℕ) → 1 < length text → get_or text 1 0 ≡ 32 → letter ≡ get_or text 0 0
-    → lettered text ≡ Some (letter, take (length text - 2) (drop 2 text))
-lettered_at text letter long blank is =
-    cond-true _ (Some (get_or text 0 0, drop 2 text)) None (and_from _ _ (lt-ltb 1 (length text) long) (eq-eqb (get_or text 1 0) 32 blank))
-    ∙ ap₂ (λ (l : ℕ) (rest : List ℕ). Some (l, rest)) (sym is) (sym (take_rest text 2))
-
 lettered_read : (letter : ℕ) (rest : List ℕ) → lettered (letter ∷ (32 ∷ rest)) ≡ Some (letter, rest)
 lettered_read letter rest = rw (lt-ltb 1 (length (letter ∷ (32 ∷ rest))) (omega arith)) refl
 
@@ -38,7 +32,7 @@ turn_read i o l e small small' small'' =
 
 -- the line of a command is read as the command
 pub command_read : (d : Command) → Sayable d → command_of (line_of d) ≡ Some d
-unfolding cut
+unfolding cut_at
 command_read (Ask a b) s = ask_read a b s.0 s.1
 command_read Next s = refl
 command_read (Trial n) s = rw (number_read n s)

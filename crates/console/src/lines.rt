@@ -1,69 +1,58 @@
 // Lines read as commands.
 ghost use Rattle.std.specs.Prelude.{◌≡◌, Some, None, MatchOption};
-ghost use Rattle.std.specs.Str.{bytes_eq};
 ghost use Rattle.console.specs.Commands.{Understood};
-ghost use Rattle.console.specs.Cuts.{cut, ask_of, lettered, turn_of, on_link, command_by, command_of};
+ghost use Rattle.console.specs.Cuts.{ask_of, lettered, turn_of, on_link, command_by, words_command, command_of};
 
 use crate::command::Command;
 use network::Refusal;
-use text::number;
+use text::{cut_at, number};
 
 // The command that a line says; the line comes without its line feed.
 pub fn read_command(line: &[u8]) -> Result<Command, Refusal>
     ensures { Understood line.now result }
 {
-    match find_command(line) {
-        Some(command) => Ok(command),
-        None => Err(Refusal::NotACommand),
-    }
+    find_command(line).ok_or(Refusal::NotACommand)
 }
 
 // The command that a line says, if it says one.
 fn find_command(line: &[u8]) -> Option<Command>
     ensures { result ≡ command_of line.now }
 {
-    if is(line, b"next") {
-        return Some(Command::Next);
+    match line {
+        b"next" => Some(Command::Next),
+        b"end" => Some(Command::End),
+        _ => read_words(line),
     }
-    if is(line, b"end") {
-        return Some(Command::End);
-    }
-    let (word, fields) = cut_at_blank(line)?;
-    read_fields(word, fields)
 }
 
-// Whether a word has the bytes of another.
-fn is(word: &[u8], other: &[u8]) -> bool
-    ensures { result ≡ bytes_eq word.now other.now }
+// The command of a line that has fields after its first word.
+fn read_words(line: &[u8]) -> Option<Command>
+    ensures { result ≡ words_command line.now }
 {
-    word == other
+    let (word, fields) = cut_at(line, b' ')?;
+    read_fields(word, fields)
 }
 
 // The command of a first word and the fields after it.
 fn read_fields(word: &[u8], fields: &[u8]) -> Option<Command>
     ensures { result ≡ command_by word.now fields.now }
 {
-    if is(word, b"ask") {
-        return read_ask(fields);
+    match word {
+        b"ask" => read_ask(fields),
+        b"turn" => read_turn(fields),
+        _ => on_link(word, number(fields)?),
     }
-    if is(word, b"turn") {
-        return read_turn(fields);
-    }
-    on_link(word, number(fields)?)
 }
 
 // The command of a first word and the one link after it.
 fn on_link(word: &[u8], link: u32) -> Option<Command>
     ensures { result ≡ on_link word.now link }
 {
-    if is(word, b"trial") {
-        Some(Command::Trial { link })
-    } else if is(word, b"close") {
-        Some(Command::Close { link })
-    } else if is(word, b"open") {
-        Some(Command::Open { link })
-    } else {
-        None
+    match word {
+        b"trial" => Some(Command::Trial { link }),
+        b"close" => Some(Command::Close { link }),
+        b"open" => Some(Command::Open { link }),
+        _ => None,
     }
 }
 
@@ -71,7 +60,7 @@ fn on_link(word: &[u8], link: u32) -> Option<Command>
 fn read_ask(fields: &[u8]) -> Option<Command>
     ensures { result ≡ ask_of fields.now }
 {
-    let (from, to) = cut_at_blank(fields)?;
+    let (from, to) = cut_at(fields, b' ')?;
     Some(Command::Ask {
         from: number(from)?,
         to: number(to)?,
@@ -82,8 +71,8 @@ fn read_ask(fields: &[u8]) -> Option<Command>
 fn read_turn(fields: &[u8]) -> Option<Command>
     ensures { result ≡ turn_of fields.now }
 {
-    let (into, rest) = cut_at_blank(fields)?;
-    let (out, rest) = cut_at_blank(rest)?;
+    let (into, rest) = cut_at(fields, b' ')?;
+    let (out, rest) = cut_at(rest, b' ')?;
     let (letter, extra) = read_letter(rest)?;
     Some(Command::Turn {
         into: number(into)?,
@@ -103,28 +92,13 @@ fn read_letter(text: &[u8]) -> Option<(char, &[u8])>
     }
 }
 
-// What stands before the first blank of a text, and what stands after it.
-fn cut_at_blank(text: &[u8]) -> Option<(&[u8], &[u8])>
-    ensures { MatchOption result (cut text.now ≡ None) (λ p. cut text.now ≡ Some (p.0.now, p.1.now)) }
-{
-    for (i, byte) in text.iter().enumerate() {
-        if *byte == b' ' {
-            return Some((&text[0..i], &text[i + 1..]));
-        }
-    }
-    None
-}
-
 #[cfg(test)]
 mod tests {
     use super::*;
 
     // The command that a line says, or the number of the refusal.
     fn told(line: &[u8]) -> Result<Command, u8> {
-        match read_command(line) {
-            Ok(command) => Ok(command),
-            Err(refusal) => Err(refusal.number()),
-        }
+        read_command(line).map_err(Refusal::number)
     }
 
     #[test]

@@ -1,13 +1,14 @@
 // Replies written as lines.
 ghost use Rattle.std.specs.Prelude.{◌≡◌, length};
-ghost use Rattle.measure.specs.Put.{Put};
+ghost use Rattle.text.specs.Put.{Put};
 ghost use Rattle.console.specs.Replies.{reply_line, Writes};
 ghost use Rattle.console.specs.Heads.{head, listed, whole};
 
 use crate::reply::Reply;
-use crate::writing::{end_of, put_cost, put_links, put_number, put_word};
+use crate::writing::{end_of, put_cost, put_links, put_number};
 use measure::Shown;
 use network::Refusal;
+use text::put_word;
 
 // Writes the line of a reply to the front of a buffer, and answers how many bytes it has. The links are a route's.
 pub fn write_reply<M: Shown>(
@@ -30,7 +31,7 @@ fn listed_in<C: Copy>(reply: Reply<C>, links: &[u16]) -> &[u16]
 {
     match reply {
         Reply::Route { .. } => links,
-        _ => &links[..0],
+        _ => &[],
     }
 }
 
@@ -40,6 +41,7 @@ fn put_head<M: Shown>(measure: &M, reply: Reply<M::Cost>, links: usize, buffer: 
     ensures { Put (head (λ cost. M.Shown.text (M.Measure.rank cost)) links reply)
         buffer.old 0 buffer.new result }
 {
+    // A `usize` has no `From` into a `u64`, so counts are widened by `as`.
     match reply {
         Reply::Done => put_word(b"ok", buffer, 0),
         Reply::Refused(refusal) => put_number(b"refused ", u64::from(refusal.number()), buffer, 0),
@@ -66,14 +68,10 @@ fn write_line(front: &[u8], links: &[u16], buffer: &mut [u8]) -> Result<usize, R
     if buffer.len() <= front.len() {
         return Err(Refusal::BufferTooShort);
     }
-    match end_of(links, front.len(), buffer.len() - 1) {
-        None => Err(Refusal::BufferTooShort),
-        Some(_) => {
-            let at = put_word(front, buffer, 0);
-            let end = put_links(links, buffer, at);
-            Ok(put_word(b"\n", buffer, end))
-        }
-    }
+    end_of(links, front.len(), buffer.len() - 1).ok_or(Refusal::BufferTooShort)?;
+    let at = put_word(front, buffer, 0);
+    let end = put_links(links, buffer, at);
+    Ok(put_word(b"\n", buffer, end))
 }
 
 #[cfg(test)]
@@ -93,10 +91,9 @@ mod tests {
     // Whether a reply under metres is written as a line, and the byte behind it left.
     fn is_written(reply: Reply<u32>, links: &[u16], line: &[u8]) -> bool {
         let mut buffer = [7; 64];
-        match write_reply(&Metres, reply, links, &mut buffer) {
-            Ok(size) => size < 64 && &buffer[..size] == line && buffer[size] == 7,
-            Err(_) => false,
-        }
+        write_reply(&Metres, reply, links, &mut buffer).is_ok_and(|size| size < 64
+            && &buffer[..size] == line
+            && buffer[size] == 7)
     }
 
     #[test]
@@ -125,19 +122,11 @@ mod tests {
         );
     }
 
-    // The size of a line that is written, or the number of the refusal.
-    fn told(answer: Result<usize, Refusal>) -> Result<usize, u8> {
-        match answer {
-            Ok(size) => Ok(size),
-            Err(refusal) => Err(refusal.number()),
-        }
-    }
-
     #[test]
     fn takes_any_shown_measure(rt: HostRuntime) {
         let mut buffer = [0; 15];
         let answer = write_reply(&TurnsFirst, Reply::Cost(4_294_968_026), &[], &mut buffer);
-        assert_eq!(rt; told(answer), Ok(15));
+        assert_eq!(rt; answer.map_err(Refusal::number), Ok(15));
         assert!(rt; &buffer == b"cost 1 t 730 m\n");
     }
 
@@ -145,10 +134,10 @@ mod tests {
     fn refuses_a_buffer_that_is_too_short(rt: HostRuntime) {
         let mut buffer = [7; 45];
         let answer = write_reply(&Metres, first_route(), &[2, 4, 3], &mut buffer);
-        assert_eq!(rt; told(answer), Err(19));
+        assert_eq!(rt; answer.map_err(Refusal::number), Err(19));
         assert!(rt; buffer == [7; 45]);
         let mut enough = [7; 46];
         let answer = write_reply(&Metres, first_route(), &[2, 4, 3], &mut enough);
-        assert_eq!(rt; told(answer), Ok(46));
+        assert_eq!(rt; answer.map_err(Refusal::number), Ok(46));
     }
 }

@@ -6,50 +6,43 @@ use image::ReadFault;
 use network::{Draft, Refusal};
 use std::fmt;
 
-// The answer of laying a link or a turn entry.
+// The answer of a call: what it did, or what it is refused for.
 #[derive(Clone, Copy)]
-pub struct Laying(pub Result<(), Refusal>);
+pub struct Answer<T, E>(Result<T, E>);
 
-impl fmt::Display for Laying {
+impl<T: fmt::Display, E: fmt::Display> fmt::Display for Answer<T, E> {
     fn fmt<W: fmt::Write>(&self, f: &mut fmt::Formatter<W>) -> fmt::Result {
-        match self.0 {
-            Ok(()) => write!(f, "laid"),
-            Err(refusal) => {
-                let number = refusal.number();
-                write!(f, "refused {number}")
-            }
+        match &self.0 {
+            Ok(done) => write!(f, "{done}"),
+            Err(cause) => write!(f, "refused {cause}"),
         }
     }
+}
+
+// How many bytes were written.
+#[derive(Clone, Copy)]
+pub struct Wrote(usize);
+
+impl fmt::Display for Wrote {
+    fn fmt<W: fmt::Write>(&self, f: &mut fmt::Formatter<W>) -> fmt::Result {
+        let size = self.0;
+        write!(f, "wrote {size}")
+    }
+}
+
+// The answer of laying a link or a turn entry.
+pub(crate) fn laying(answer: Result<(), Refusal>) -> Answer<&'static str, Refusal> {
+    Answer(answer.map(|()| "laid"))
 }
 
 // The answer of reading an image.
-#[derive(Clone, Copy)]
-pub struct Reading(pub Result<(), ReadFault>);
-
-impl fmt::Display for Reading {
-    fn fmt<W: fmt::Write>(&self, f: &mut fmt::Formatter<W>) -> fmt::Result {
-        match self.0 {
-            Ok(()) => write!(f, "read"),
-            Err(ReadFault::ContentsWrong) => write!(f, "refused 17"),
-            Err(ReadFault::RecordNotLaid(number)) => write!(f, "refused 18 {number}"),
-        }
-    }
+pub(crate) fn reading(answer: Result<(), ReadFault>) -> Answer<&'static str, ReadFault> {
+    Answer(answer.map(|()| "read"))
 }
 
 // The answer of writing an image.
-#[derive(Clone, Copy)]
-pub struct Writing(pub Result<usize, Refusal>);
-
-impl fmt::Display for Writing {
-    fn fmt<W: fmt::Write>(&self, f: &mut fmt::Formatter<W>) -> fmt::Result {
-        match self.0 {
-            Ok(size) => write!(f, "wrote {size}"),
-            Err(refusal) => {
-                let number = refusal.number();
-                write!(f, "refused {number}")
-            }
-        }
-    }
+pub(crate) fn writing(answer: Result<usize, Refusal>) -> Answer<Wrote, Refusal> {
+    Answer(answer.map(Wrote))
 }
 
 // How many links and turn entries a draft holds.
@@ -73,8 +66,7 @@ impl Counts {
 
 impl fmt::Display for Counts {
     fn fmt<W: fmt::Write>(&self, f: &mut fmt::Formatter<W>) -> fmt::Result {
-        let links = self.links;
-        let turns = self.turns;
+        let Counts { links, turns } = *self;
         write!(f, "links {links} turns {turns}")
     }
 }

@@ -1,5 +1,5 @@
 // Writing images into buffers of several sizes.
-use crate::answers::Writing;
+use crate::answers::writing;
 use crate::{images, sample};
 use measure::Metres;
 use network::Draft;
@@ -7,17 +7,6 @@ use std::io;
 
 // What fills a buffer before it is written into. The sample and the empty image have no such byte.
 const MARK: u8 = 0xAA;
-
-// How many bytes are the mark.
-fn marks_in(bytes: &[u8]) -> usize {
-    let mut marks = 0usize;
-    for byte in bytes {
-        if *byte == MARK {
-            marks = marks.saturating_add(1);
-        }
-    }
-    marks
-}
 
 // Whether the bytes begin as an image is listed.
 fn begins(bytes: &[u8], image: &[u8]) -> &'static str {
@@ -37,30 +26,32 @@ pub(crate) fn show_buffer(
 ) -> io::Result<()> {
     let map = navigator::seal(draft, Metres);
     let mut buffer = vec![in rt.alloc(); MARK; size]?;
-    let answer = Writing(navigator::write_image(&map, buffer.as_mut_slice()));
+    let answer = writing(navigator::write_image(&map, buffer.as_mut_slice()));
     let front = begins(buffer.as_slice(), image);
-    let left = marks_in(buffer.as_slice());
+    let left = buffer.iter().filter(|byte| **byte == MARK).count();
     println!(rt; "buffer of {size}: {answer}, front {front}, {left} left as they were")
 }
 
-fn show_sizes(rt: &HostRuntime) -> io::Result<()> {
-    for size in [0, 15, 16, 105, 106, 107, 120] {
-        show_buffer(rt, sample::draft(), size, sample::IMAGE)?;
-    }
-    Ok(())
-}
-
-fn show_empty(rt: &HostRuntime) -> io::Result<()> {
-    for size in [0, 15, 16, 17] {
-        show_buffer(rt, Draft::new(), size, sample::EMPTY)?;
+// Writes the image of a draft into a buffer of each of the sizes.
+fn show_sizes<F: Fn() -> Draft>(
+    rt: &HostRuntime,
+    draft: F,
+    image: &[u8],
+    sizes: &[usize],
+) -> io::Result<()>
+    requires { F.IsAlwaysCallable draft }
+{
+    for size in sizes {
+        show_buffer(rt, draft(), *size, image)?;
     }
     Ok(())
 }
 
 // Writes the sample and the empty image, and reads them back.
 pub(crate) fn show_buffers(rt: &HostRuntime) -> io::Result<()> {
-    show_sizes(rt)?;
-    show_empty(rt)?;
+    let sizes = [0, 15, 16, 105, 106, 107, 120];
+    show_sizes(rt, sample::draft, sample::IMAGE, &sizes)?;
+    show_sizes(rt, Draft::new, sample::EMPTY, &[0, 15, 16, 17])?;
     show_buffer(rt, sample::recorded(), 106, sample::IMAGE)?;
     images::show_reading(rt, "sample", sample::IMAGE)?;
     images::show_reading(rt, "empty", sample::EMPTY)

@@ -3,8 +3,10 @@ use crate::tally::Tally;
 use crate::{images, sample};
 use std::alloc::{AllocError, Global};
 use std::io;
+use std::ops::Range;
 
-// A place in the image, and the byte that is put there.
+// A place in the image, and the byte that is put there. Neither it nor a case names its parts: a case is a line or two of a
+// table, and would be five and more.
 #[derive(Clone, Copy)]
 struct Edit(usize, u8);
 
@@ -79,20 +81,10 @@ const TOGETHER: [ImageCase; 8] = [
     ),
 ];
 
-// The sample image with the byte at a place raised by one, from 255 to 0.
-fn raised(heap: Global, place: usize) -> Result<Vec<u8>, AllocError> {
-    let mut bytes = Vec::from_slice(heap, sample::IMAGE)?;
-    if let Some(byte) = bytes.get_mut(place) {
-        *byte = byte.wrapping_add(1);
-    }
-    Ok(bytes)
-}
-
 // The sample image with the edits made.
 fn edited(heap: Global, edits: &[Edit]) -> Result<Vec<u8>, AllocError> {
     let mut bytes = Vec::from_slice(heap, sample::IMAGE)?;
-    for edit in edits {
-        let Edit(place, value) = *edit;
+    for &Edit(place, value) in edits {
         if let Some(byte) = bytes.get_mut(place) {
             *byte = value;
         }
@@ -100,10 +92,10 @@ fn edited(heap: Global, edits: &[Edit]) -> Result<Vec<u8>, AllocError> {
     Ok(bytes)
 }
 
-// Raises each byte of the table of contents, and prints each answer.
+// Raises each byte of the table of contents, from 255 to 0, and prints each answer.
 fn show_contents(rt: &HostRuntime) -> io::Result<()> {
-    for place in 0..16 {
-        let bytes = raised(rt.alloc(), place)?;
+    for (place, byte) in sample::IMAGE.iter().take(16).enumerate() {
+        let bytes = edited(rt.alloc(), &[Edit(place, byte.wrapping_add(1))])?;
         let name = format!(in rt.alloc(); "contents byte {place} raised")?;
         images::show_reading(rt, name.as_str(), bytes.as_slice())?;
     }
@@ -112,9 +104,9 @@ fn show_contents(rt: &HostRuntime) -> io::Result<()> {
 
 // Raises each byte of the image in turn, and prints how the images were answered.
 fn show_raised(rt: &HostRuntime) -> io::Result<()> {
-    let mut tally = Tally::new();
-    for place in 0..106 {
-        let bytes = raised(rt.alloc(), place)?;
+    let mut tally = Tally::default();
+    for (place, byte) in sample::IMAGE.iter().enumerate() {
+        let bytes = edited(rt.alloc(), &[Edit(place, byte.wrapping_add(1))])?;
         tally.count(rt.alloc(), bytes.as_slice())?;
     }
     println!(rt; "each byte raised in turn: {tally}")
@@ -129,18 +121,17 @@ fn count_values(heap: Global, place: usize, tally: &mut Tally) -> Result<(), All
     Ok(())
 }
 
-// Sets each byte from one place to another to each value, and prints how the images were answered.
-fn show_values(rt: &HostRuntime, name: &str, from: usize, to: usize) -> io::Result<()> {
-    let mut tally = Tally::new();
-    for place in from..=to {
+// Sets the byte at each of the places to each value, and prints how the images were answered.
+fn show_values(rt: &HostRuntime, name: &str, places: Range<usize>) -> io::Result<()> {
+    let mut tally = Tally::default();
+    for place in places {
         count_values(rt.alloc(), place, &mut tally)?;
     }
     println!(rt; "each value at each byte of {name}: {tally}")
 }
 
 fn show_cases(rt: &HostRuntime, cases: &[ImageCase]) -> io::Result<()> {
-    for case in cases {
-        let ImageCase(name, edits) = *case;
+    for &ImageCase(name, edits) in cases {
         let bytes = edited(rt.alloc(), edits)?;
         images::show_reading(rt, name, bytes.as_slice())?;
     }
@@ -151,9 +142,9 @@ fn show_cases(rt: &HostRuntime, cases: &[ImageCase]) -> io::Result<()> {
 pub(crate) fn show_changes(rt: &HostRuntime) -> io::Result<()> {
     show_contents(rt)?;
     show_raised(rt)?;
-    show_values(rt, "the contents", 0, 15)?;
-    show_values(rt, "the links", 16, 69)?;
-    show_values(rt, "the turns", 70, 105)?;
+    show_values(rt, "the contents", 0..16)?;
+    show_values(rt, "the links", 16..70)?;
+    show_values(rt, "the turns", 70..106)?;
     show_cases(rt, &RECORDS)?;
     show_cases(rt, &TOGETHER)
 }

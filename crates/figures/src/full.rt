@@ -1,7 +1,7 @@
 // A full map: 1,024 links and 2,048 turn entries.
 ghost use Rattle.std.specs.Prelude.{◌≤◌};
 
-use crate::answers::{Counts, Laying};
+use crate::answers::{Counts, laying};
 use crate::{buffers, images};
 use network::Draft;
 use std::io;
@@ -21,33 +21,24 @@ fn lay_links(draft: &mut Draft) {
     }
 }
 
-// The five letters in turn.
-fn letter_of(turn: u32) -> char {
-    match turn % 5 {
-        0 => 'S',
-        1 => 'L',
-        2 => 'R',
-        3 => 'U',
-        _ => 'X',
-    }
-}
+// The letters that the entries have in turn.
+const LETTERS: [char; 5] = ['S', 'L', 'R', 'U', 'X'];
 
 // Entries from each link into the two links that start where it ends.
 fn lay_turns(draft: &mut Draft) {
     for turn in 0u32..2048 {
         let into = turn / 2 + 1;
         let out = 2 * end_of(into) - 1 + turn % 2;
-        let _ = draft.lay_turn(into, out, letter_of(turn), turn * 488);
+        let letter = LETTERS[turn as usize % 5];
+        let _ = draft.lay_turn(into, out, letter, turn * 488);
     }
 }
 
 // A number that depends on each byte and on its place.
 fn digest(bytes: &[u8]) -> u32 {
-    let mut number = 0u32;
-    for byte in bytes {
-        number = number.wrapping_mul(31).wrapping_add(u32::from(*byte));
-    }
-    number
+    bytes.iter().fold(0u32, |number, byte| {
+        number.wrapping_mul(31).wrapping_add(u32::from(*byte))
+    })
 }
 
 // Lays the full map, seals and writes it, reads it back and writes it again.
@@ -57,8 +48,8 @@ pub(crate) fn show_full(rt: &HostRuntime) -> io::Result<()> {
     lay_turns(&mut draft);
     let counts = Counts::of(&draft);
     println!(rt; "full map: {counts}")?;
-    let link = Laying(draft.lay_link(512, 1, 10, 3));
-    let turn = Laying(draft.lay_turn(1, 75, 'S', 0));
+    let link = laying(draft.lay_link(512, 1, 10, 3));
+    let turn = laying(draft.lay_turn(1, 75, 'S', 0));
     let after = Counts::of(&draft);
     println!(rt; "full map, one link more: {link}, one turn more: {turn}, {after}")?;
     let image = images::image_of(rt.alloc(), draft)?;

@@ -1,50 +1,56 @@
 // A draft that holds something when an image is read into it.
-use crate::answers::{Counts, Laying, Reading};
-use crate::{images, sample};
-use network::Draft;
+use crate::answers::{Counts, laying, reading};
+use crate::holding::Holding;
+use crate::records::{link, turn};
+use crate::sample;
+use network::{Draft, Record};
 use std::io;
 
-// Reads an image into a draft, and prints the answer and what the draft holds before and after.
-fn read_into(rt: &HostRuntime, draft: &mut Draft, name: &str, bytes: &[u8]) -> io::Result<()> {
-    let image = images::image_so_far(rt.alloc(), draft)?;
-    let before = Counts::of(draft);
-    let answer = Reading(image::read_image(draft, bytes));
-    let after = Counts::of(draft);
-    let change = images::change(rt.alloc(), image.as_slice(), draft)?;
-    println!(rt; "held, {name}: {answer}, {before} then {after}, {change}")
+// A draft, and where what happens to it is printed.
+#[derive(Drop)]
+struct Held<'a> {
+    rt: &'a HostRuntime,
+    draft: Draft,
 }
 
-fn lay_link(rt: &HostRuntime, draft: &mut Draft, start: u32) -> io::Result<()> {
-    let answer = Laying(draft.lay_link(start, 2, 10, 3));
-    let counts = Counts::of(draft);
-    println!(rt; "held, link from {start}: {answer}, {counts}")
-}
+impl Held<'_> {
+    // Reads an image into the draft, and prints the answer and what the draft holds before and after.
+    fn read(&mut self, name: &str, bytes: &[u8]) -> io::Result<()> {
+        let before = Holding::of(self.rt.alloc(), &self.draft)?;
+        let answer = reading(image::read_image(&mut self.draft, bytes));
+        let after = Holding::of(self.rt.alloc(), &self.draft)?;
+        let change = after.change(&before);
+        println!(self.rt; "held, {name}: {answer}, {before} then {after}, {change}")
+    }
 
-fn lay_turn(rt: &HostRuntime, draft: &mut Draft, into: u32, out: u32) -> io::Result<()> {
-    let answer = Laying(draft.lay_turn(into, out, 'S', 0));
-    let counts = Counts::of(draft);
-    println!(rt; "held, turn from {into} into {out}: {answer}, {counts}")
+    // Lays a record, and prints the answer and what the draft then holds.
+    fn lay(&mut self, name: &str, record: Record) -> io::Result<()> {
+        let answer = laying(self.draft.lay(record));
+        let counts = Counts::of(&self.draft);
+        println!(self.rt; "held, {name}: {answer}, {counts}")
+    }
 }
 
 // Two links and an entry are held. A refused image leaves them, and an accepted one takes their place.
 pub(crate) fn show_held(rt: &HostRuntime) -> io::Result<()> {
-    let mut draft = Draft::new();
-    lay_link(rt, &mut draft, 2)?;
-    lay_link(rt, &mut draft, 9)?;
-    lay_turn(rt, &mut draft, 1, 1)?;
+    let draft = Draft::new();
+    let mut held = Held { rt, draft };
+    held.lay("link from 2", link!(2, 2, 10, 3))?;
+    held.lay("link from 9", link!(9, 2, 10, 3))?;
+    held.lay("turn from 1 into 1", turn!(1, 1, 'S', 0))?;
     let mut bad = *sample::IMAGE;
-    read_into(rt, &mut draft, "one byte short", &bad[0..105])?;
+    held.read("one byte short", &bad[0..105])?;
     bad[101] = b'Q';
-    read_into(rt, &mut draft, "last letter Q", &bad)?;
-    lay_link(rt, &mut draft, 8)?;
-    lay_link(rt, &mut draft, 9)?;
-    lay_turn(rt, &mut draft, 1, 1)?;
-    read_into(rt, &mut draft, "sample", sample::IMAGE)?;
-    lay_link(rt, &mut draft, 3)?;
-    lay_link(rt, &mut draft, 4)?;
-    lay_turn(rt, &mut draft, 6, 5)?;
-    lay_turn(rt, &mut draft, 3, 7)?;
-    read_into(rt, &mut draft, "last letter Q", &bad)?;
-    read_into(rt, &mut draft, "empty", sample::EMPTY)?;
-    lay_link(rt, &mut draft, 1)
+    held.read("last letter Q", &bad)?;
+    held.lay("link from 8", link!(8, 2, 10, 3))?;
+    held.lay("link from 9", link!(9, 2, 10, 3))?;
+    held.lay("turn from 1 into 1", turn!(1, 1, 'S', 0))?;
+    held.read("sample", sample::IMAGE)?;
+    held.lay("link from 3", link!(3, 2, 10, 3))?;
+    held.lay("link from 4", link!(4, 2, 10, 3))?;
+    held.lay("turn from 6 into 5", turn!(6, 5, 'S', 0))?;
+    held.lay("turn from 3 into 7", turn!(3, 7, 'S', 0))?;
+    held.read("last letter Q", &bad)?;
+    held.read("empty", sample::EMPTY)?;
+    held.lay("link from 1", link!(1, 2, 10, 3))
 }

@@ -5,7 +5,7 @@ use std::io;
 
 // Reads the image at each length from one to another, and prints how they were answered.
 fn show_span(rt: &HostRuntime, from: usize, to: usize) -> io::Result<()> {
-    let mut tally = Tally::new();
+    let mut tally = Tally::default();
     for length in from..=to {
         let mut bytes = Vec::from_slice(rt.alloc(), sample::IMAGE)?;
         bytes.resize(length, 0)?;

@@ -3,13 +3,16 @@
 
 mod answers;
 mod buffers;
+mod cases;
 mod changes;
 mod full;
 mod held;
+mod holding;
 mod images;
 mod lengths;
 mod limits;
 mod links;
+mod records;
 mod sample;
 mod tally;
 mod turns;

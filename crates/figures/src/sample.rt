@@ -1,20 +1,18 @@
 // The sample map, six links and four turn entries, and its image.
+use crate::records::{laid, link, turn};
 use network::{Draft, Record};
 
-const LINKS: [(u32, u32, u32, u8); 6] = [
-    (1, 2, 350, 2),
-    (1, 3, 200, 5),
-    (2, 4, 400, 1),
-    (3, 2, 100, 3),
-    (3, 4, 450, 4),
-    (4, 3, 150, 2),
-];
-
-const TURNS: [(u32, u32, char, u32); 4] = [
-    (2, 5, 'R', 120),
-    (4, 3, 'L', 30),
-    (5, 6, 'X', 0),
-    (6, 5, 'U', 200),
+const RECORDS: [Record; 10] = [
+    link!(1, 2, 350, 2),
+    link!(1, 3, 200, 5),
+    link!(2, 4, 400, 1),
+    link!(3, 2, 100, 3),
+    link!(3, 4, 450, 4),
+    link!(4, 3, 150, 2),
+    turn!(2, 5, 'R', 120),
+    turn!(4, 3, 'L', 30),
+    turn!(5, 6, 'X', 0),
+    turn!(6, 5, 'U', 200),
 ];
 
 // The image of the sample map: the table of contents, six links and four turn entries.
@@ -39,52 +37,29 @@ pub const EMPTY: &[u8; 16] = b"\
     \x54\x00\x00\x00\x00\x00\x00\x10\
 ";
 
-fn lay_links(draft: &mut Draft) {
-    for (start, end, length, tightness) in LINKS {
-        let _ = draft.lay_link(start, end, length, tightness);
-    }
-}
-
-fn lay_turns(draft: &mut Draft) {
-    for (into, out, letter, extra) in TURNS {
-        let _ = draft.lay_turn(into, out, letter, extra);
-    }
-}
-
-// The sample map, laid.
+// The sample map, laid by the calls for links and for turn entries; `recorded` lays it by the call for records.
 pub(crate) fn draft() -> Draft {
     let mut draft = Draft::new();
-    lay_links(&mut draft);
-    lay_turns(&mut draft);
+    for record in RECORDS {
+        let _ = match record {
+            Record::Link {
+                start,
+                end,
+                length,
+                tightness,
+            } => draft.lay_link(start, end, length, tightness),
+            Record::Turn {
+                into,
+                out,
+                letter,
+                extra,
+            } => draft.lay_turn(into, out, letter, extra),
+        };
+    }
     draft
-}
-
-fn record_links(draft: &mut Draft) {
-    for (start, end, length, tightness) in LINKS {
-        let _ = draft.lay(Record::Link {
-            start,
-            end,
-            length,
-            tightness,
-        });
-    }
-}
-
-fn record_turns(draft: &mut Draft) {
-    for (into, out, letter, extra) in TURNS {
-        let _ = draft.lay(Record::Turn {
-            into,
-            out,
-            letter,
-            extra,
-        });
-    }
 }
 
 // The sample map, laid record by record.
 pub(crate) fn recorded() -> Draft {
-    let mut draft = Draft::new();
-    record_links(&mut draft);
-    record_turns(&mut draft);
-    draft
+    laid(&RECORDS)
 }

@@ -5,7 +5,7 @@ use network::Draft;
 use std::alloc::{AllocError, Global};
 use std::fmt;
 
-#[derive(Clone, Copy)]
+#[derive(Clone, Copy, Default)]
 pub struct Tally {
     read: u32,
     contents: u32,
@@ -14,15 +14,6 @@ pub struct Tally {
 }
 
 impl Tally {
-    pub(crate) fn new() -> Tally {
-        Tally {
-            read: 0,
-            contents: 0,
-            records: 0,
-            same: 0,
-        }
-    }
-
     // Counts the answer for an image, and whether what is read is written the same.
     pub(crate) fn count(&mut self, heap: Global, bytes: &[u8]) -> Result<(), AllocError> {
         let mut draft = Draft::new();
@@ -41,10 +32,12 @@ impl Tally {
 
 impl fmt::Display for Tally {
     fn fmt<W: fmt::Write>(&self, f: &mut fmt::Formatter<W>) -> fmt::Result {
-        let read = self.read;
-        let contents = self.contents;
-        let records = self.records;
-        let same = self.same;
+        let Tally {
+            read,
+            contents,
+            records,
+            same,
+        } = *self;
         write!(
             f,
             "{read} read, {same} written the same, {contents} refused 17, {records} refused 18"

@@ -1,3 +1,3 @@
 pub mod Tournaments
 pub mod Frontiers
-pub mod Labels
+pub mod Labelled

@@ -1,5 +1,5 @@
 -- The laws of a tournament, over what its nodes hold and what its links cost.
-use Rattle.std.proofs.Common.{◌≡◌, ℕ, zero, suc, ◌+◌, ◌-◌, ◌*◌, ◌/◌, ◌<◌, ◌≤◌, cond, ltb, ◌≢◌, ◌⊎◌, sym, refl, ap, ◌∙◌, subst, inl, inr, ⊎_elim, arith}
+use Rattle.std.proofs.Common.{◌≡◌, ℕ, zero, suc, ◌+◌, ◌-◌, ◌*◌, ◌/◌, ◌<◌, ◌≤◌, Bool, cond, ltb, ◌≢◌, ◌⊎◌, sym, refl, ap, ◌∙◌, subst, inl, inr, ⊎_elim, arith}
 use Rattle.std.proofs.lemmas.Bool.{cases_eq, cases_lt, lt-ltb, le-ltb, eq-eqb, ne_eqb, cond-true, cond-false}
 use Rattle.frontier.specs.Tournament.{winner, Right}
 
@@ -45,6 +45,14 @@ module _ (cost : ℕ → ℕ) where
       (cases_lt (cost b) (cost a)))
       (cases_eq b 0))
       (cases_eq a 0)
+
+  -- The winner of two links, by a test of numbers that are theirs.
+  pub winner_told : (a b x y : ℕ) (t : Bool) → 0 < x → x ≡ a → 0 < y → y ≡ b → t ≡ ltb (cost y) (cost x) → winner cost a b ≡ cond t b a
+  winner_told a b x y t p d q e is =
+      winner_tested a b (λ z. omega (arith, p, d, z)) (λ z. omega (arith, q, e, z))
+      ∙ ap (λ k. cond (ltb (cost k) (cost a)) b a) (sym e)
+      ∙ ap (λ k. cond (ltb (cost y) (cost k)) b a) (sym d)
+      ∙ ap (λ u. cond u b a) (sym is)
 
   pub winner_within : (a b n : ℕ) → a ≤ n → b ≤ n → winner cost a b ≤ n
   winner_within a b n p q = ⊎_elim (λ e. omega (arith, e)) (λ e. omega (arith, e)) (won a b).one

@@ -1,5 +1,4 @@
 pub mod Octets
-pub mod Contents
 pub mod Readings
 pub mod ReadBack
 pub mod Written

@@ -1,6 +1,7 @@
 -- Bytes and the numbers that they stand for. Assumes nothing.
 use Rattle.std.proofs.Common.{◌≡◌, ℕ, ◌+◌, ◌*◌, ◌/◌, ◌%◌, ◌<◌, ◌≤◌, List, [], ◌∷◌, ◌++◌, length, get_or, take, drop, sym, refl, ap, ◌∙◌, ap₂, arith, length-drop}
 use Rattle.std.proofs.lemmas.List.{get_or-drop}
+use Rattle.std.proofs.lemmas.Nat.{from_be_bytes-to_be_bytes_2, from_be_bytes-to_be_bytes_4}
 use Rattle.image.specs.Image.{two, four, four_at, record_bytes, link_in, turn_in}
 use Rattle.image.specs.Steps.{Octets}
 
@@ -21,16 +22,11 @@ four_back a b c d p q r s =
 
 -- the number that its bytes are read as
 pub two_again : (n : ℕ) → n < 65536 → n / 256 % 256 * 256 + n % 256 ≡ n
-two_again n h = omega arith
+two_again = from_be_bytes-to_be_bytes_2
 
 pub four_again : (n : ℕ) → n < 4294967296
     → n / 16777216 % 256 * 16777216 + n / 65536 % 256 * 65536 + n / 256 % 256 * 256 + n % 256 ≡ n
-four_again n h =
-    let top : n / 16777216 % 256 ≡ n / 16777216 = omega arith in
-    let third : n / 65536 ≡ n / 16777216 * 256 + n / 65536 % 256 = omega arith in
-    let second : n / 256 ≡ n / 65536 * 256 + n / 256 % 256 = omega arith in
-    let first : n ≡ n / 256 * 256 + n % 256 = omega arith in
-    omega arith
+four_again = from_be_bytes-to_be_bytes_4
 
 pub octets_drop : (k : ℕ) (bs : List ℕ) → Octets bs → Octets (drop k bs)
 octets_drop k bs all i h =

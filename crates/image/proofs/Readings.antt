@@ -1,16 +1,14 @@
 -- Laying the records of an image, one after another. Assumes nothing.
-use Rattle.std.proofs.Common.{◌≡◌, ℕ, suc, ◌+◌, ◌-◌, ◌<◌, ◌≤◌, Bool, cond, List, ◌∷◌, drop, is_some, is_err, Some, None, Ok, Err, Option, Result, refl, ap, ◌∙◌, arith}
+use Rattle.std.proofs.Common.{◌≡◌, ℕ, suc, ◌+◌, ◌-◌, ◌<◌, ◌≤◌, Bool, true, false, cond, List, ◌∷◌, drop, is_err, Ok, Err, Option, Result, sym, refl, ap, ◌∙◌, arith}
+use Rattle.std.specs.Result.{result_or}
 use Rattle.std.proofs.lemmas.Bool.{lt-ltb, le-ltb}
 use Rattle.network.specs.declared.record.Record.{Record}
 use Rattle.network.specs.declared.refusal.Refusal.{Refusal}
 use Rattle.network.specs.Refusals.{refusal_in}
 use Rattle.network.specs.Plan.{Plan}
 use Rattle.network.specs.Laying.{record_refusal, with_record}
+use Rattle.image.specs.declared.fault.ReadFault.{ReadFault}
 use Rattle.image.specs.Image.{link_in, turn_in, record_in, records_in, Reading, not_laid, laid_or, lay_all}
-
-pub refuses : {A : Type 0} (r : Result A Refusal) → is_err r ≡ is_some (refusal_in r)
-refuses (Ok a) = refl
-refuses (Err e) = refl
 
 pub link_comes : (i links : ℕ) (bs : List ℕ) → i < links → record_in i links bs ≡ link_in bs
 link_comes i links bs h = ap (λ (b : Bool). cond b (link_in bs) (turn_in bs)) (lt-ltb i links h)
@@ -23,16 +21,27 @@ pub records_more : (i links n : ℕ) (bs : List ℕ) → 0 < n
 unfolding records_in
 records_more i links n bs h = ap (λ (m : ℕ). records_in i links m bs) (let e : n ≡ suc (n - 1) = omega arith in e)
 
-refused_or_laid : (o : Option ℕ) (laid refused : Reading) (b : Bool) → is_some o ≡ b → laid_or o laid refused ≡ cond b refused laid
-refused_or_laid None laid refused b e = ap (λ (x : Bool). cond x refused laid) e
-refused_or_laid (Some n) laid refused b e = ap (λ (x : Bool). cond x refused laid) e
+refused_or_laid : {A : Type 0} (r : Result A Refusal) (o : Option ℕ) (laid refused : Reading) → refusal_in r ≡ o
+    → laid_or o laid refused ≡ cond (is_err r) refused laid
+refused_or_laid (Ok a) o laid refused e = ap (λ (x : Option ℕ). laid_or x laid refused) (sym e)
+refused_or_laid (Err f) o laid refused e = ap (λ (x : Option ℕ). laid_or x laid refused) (sym e)
 
 -- one record more: it is refused, or laid and the others follow
-pub record_next : (i links n : ℕ) (bs : List ℕ) (p : Plan) (b : Bool) → 0 < n → is_some (record_refusal p (record_in i links bs)) ≡ b
+pub record_next : (i links n : ℕ) (bs : List ℕ) (p : Plan) (r : Result (Unit {0}) Refusal) → 0 < n
+    → refusal_in r ≡ record_refusal p (record_in i links bs)
     → lay_all i p (records_in i links n bs)
-    ≡ cond b (not_laid (i + 1)) (lay_all (i + 1) (with_record p (record_in i links bs)) (records_in (i + 1) links (n - 1) (drop 9 bs)))
+    ≡ cond (is_err r) (not_laid (i + 1)) (lay_all (i + 1) (with_record p (record_in i links bs)) (records_in (i + 1) links (n - 1) (drop 9 bs)))
 unfolding lay_all
-record_next i links n bs p b h e =
+record_next i links n bs p r h e =
     ap (λ (rs : List Record). lay_all i p rs) (records_more i links n bs h)
-    ∙ refused_or_laid (record_refusal p (record_in i links bs))
-    (lay_all (i + 1) (with_record p (record_in i links bs)) (records_in (i + 1) links (n - 1) (drop 9 bs))) (not_laid (i + 1)) b e
+    ∙ refused_or_laid r (record_refusal p (record_in i links bs))
+    (lay_all (i + 1) (with_record p (record_in i links bs)) (records_in (i + 1) links (n - 1) (drop 9 bs))) (not_laid (i + 1)) e
+
+-- what laying a record answers, with its refusal told by the number of the record
+pub was_refused : (r : Result (Unit {0}) Refusal) (fault told : ReadFault) → Err fault ≡ result_or r (Err told) → (is_err r ≡ true) × (fault ≡ told)
+was_refused (Ok u) fault told e = cc
+was_refused (Err f) fault told e = (refl, cc)
+
+pub was_laid : (r : Result (Unit {0}) Refusal) (u : Unit {0}) (told : ReadFault) → Ok u ≡ result_or r (Err told) → is_err r ≡ false
+was_laid (Ok v) u told e = refl
+was_laid (Err f) u told e = cc

@@ -1,14 +1,11 @@
 -- What writing an image answers, and what it leaves in the buffer.
---     written at bytes buffer       the buffer with the bytes written from a place on
 --     Writes plan before r after    r answers the writing of a plan's image, where the buffer held `before` and holds `after` then
-use Rattle.std.specs.Prelude.{◌≡◌, ℕ, ◌+◌, List, ◌++◌, length, take, drop, Some, Ok, MatchBool, Result, nat_lt}
+use Rattle.std.specs.Prelude.{◌≡◌, ℕ, List, length, take, Some, Ok, MatchBool, Result, nat_lt}
+use Rattle.text.specs.Put.{written}
 use Rattle.network.specs.declared.refusal.Refusal.{Refusal}
 use Rattle.network.specs.Refusals.{refusal_in}
 use Rattle.network.specs.Plan.{Plan}
 use Rattle.image.specs.Image.{encode, decode, holds}
-
-abbrev pub written : (at : ℕ) → (bytes buffer : List ℕ) → List ℕ
-written at bytes buffer = take at buffer ++ (bytes ++ drop (at + length bytes) buffer)
 
 -- what is written reads back as the plan
 abbrev pub Writes : Plan → List ℕ → Result ℕ Refusal → List ℕ → Type 0

@@ -1,5 +1,6 @@
 #![tactic(auto)]
 
+mod contents;
 mod entry;
 mod fault;
 mod reading;

@@ -1,53 +1,46 @@
 // Reading an image into a draft.
-ghost use Rattle.std.specs.Prelude.{◌≡◌, ◌+◌, ◌*◌, ◌<◌, ◌≤◌, true, false, length, drop, MatchOption};
+ghost use Rattle.std.specs.Prelude.{◌≡◌, ◌+◌, ◌≤◌, true, false, length, drop, MatchOption};
 ghost use Rattle.network.specs.Laid.{drafted};
 ghost use Rattle.network.specs.Plan.{empty};
-ghost use Rattle.image.specs.Image.{link_in, turn_in, records_in, lay_all, contents_right, links_told, turns_told};
-ghost use Rattle.image.specs.Steps.{Octets, EntryIn, reading_of};
+ghost use Rattle.image.specs.Image.{link_in, turn_in, record_in, records_in, lay_all, contents_right, links_told, turns_told};
+ghost use Rattle.image.specs.Steps.{Octets, reading_of};
 ghost use Rattle.image.specs.Reads.{Reads};
 
+use crate::contents::Contents;
 use crate::entry::ContentsEntry;
 use crate::fault::ReadFault;
 use network::{Draft, Record};
 
-// The contents entry in the first eight bytes, and the bytes after it.
-fn read_entry(bytes: &[u8]) -> Option<(ContentsEntry, &[u8])>
-    ensures { MatchOption result (length bytes.now < 8) (λ p. EntryIn bytes.now p.0 p.1.now) }
-{
-    let [kind, zero, c1, c0, p3, p2, p1, p0, rest @ ..] = bytes else {
-        return None;
-    };
-    let entry = ContentsEntry {
-        kind: *kind,
-        zero: *zero,
-        count: u16::from_be_bytes([*c1, *c0]),
-        place: u32::from_be_bytes([*p3, *p2, *p1, *p0]),
-    };
-    Some((entry, rest))
-}
-
-// How many links and turn entries an image tells, and the bytes of their records.
-fn read_contents(bytes: &[u8]) -> Option<(usize, usize, &[u8])>
+// What an image tells of its records, where its length and its table of contents are right.
+fn read_contents(bytes: &[u8]) -> Option<Contents>
     ensures { MatchOption result (contents_right bytes.now ≡ false)
-        (λ p. (contents_right bytes.now ≡ true)
-        × (p.0 ≡ links_told bytes.now)
-        × (p.1 ≡ turns_told bytes.now)
-        × (p.2.now ≡ drop 16 bytes.now)
+        (λ c. (contents_right bytes.now ≡ true)
+        × (c.links ≡ links_told bytes.now)
+        × (c.turns ≡ turns_told bytes.now)
+        × (c.records.now ≡ drop 16 bytes.now)
         × Octets bytes.now) }
 {
-    let (first, rest) = read_entry(bytes)?;
-    let (second, bodies) = read_entry(rest)?;
-    let links = first.count as usize;
-    let turns = second.count as usize;
-    let place = 16 + 9 * u32::from(first.count);
-    if first.is(0x4C, 16) && second.is(0x54, place) && bodies.len() == 9 * (links + turns) {
-        Some((links, turns, bodies))
+    let (first, rest) = ContentsEntry::read(bytes)?;
+    let (second, records) = ContentsEntry::read(rest)?;
+    let links = usize::from(first.count);
+    let turns = usize::from(second.count);
+    // An `if`, since a Contents is made only where the lengths fit.
+    if first == ContentsEntry::of_links(first.count)
+        && second == ContentsEntry::of_turns(second.count, first.count)
+        && records.len() == 9 * (links + turns)
+    {
+        Some(Contents {
+            links,
+            turns,
+            records,
+        })
     } else {
         None
     }
 }
 
-// The link in the first nine bytes, and the bytes after it.
+// The link in the first nine bytes, and the bytes after it. Links and turn entries are read by a pattern each, since
+// their fields have other places and sizes; a rule of this project has the patterns name the rest too, so the bytes are a slice.
 fn read_link(bytes: &[u8]) -> (Record, &[u8])
     requires { 9 ≤ length bytes.now }
     ensures { (result.0 ≡ link_in bytes.now) × (result.1.now ≡ drop 9 bytes.now) }
@@ -81,22 +74,29 @@ fn read_turn(bytes: &[u8]) -> (Record, &[u8])
     (record, rest)
 }
 
+// Record i, counted from 0, in the first nine bytes, and the bytes after it; the first records are those of links.
+fn read_record(i: usize, links: usize, bytes: &[u8]) -> (Record, &[u8])
+    requires { 9 ≤ length bytes.now }
+    ensures { (result.0 ≡ record_in i links bytes.now) × (result.1.now ≡ drop 9 bytes.now) }
+{
+    if i < links {
+        read_link(bytes)
+    } else {
+        read_turn(bytes)
+    }
+}
+
 // A draft with the records laid in their order: the links, and then the turn entries.
-fn lay_records(links: usize, turns: usize, bytes: &[u8]) -> Result<Draft, ReadFault>
-    requires { length bytes.now ≡ 9 * (links + turns) }
-    ensures { reading_of result ≡ lay_all 0 empty (records_in 0 links (links + turns) bytes.now) }
+fn lay_records(contents: Contents) -> Result<Draft, ReadFault>
+    ensures { reading_of result
+        ≡ lay_all 0 empty (records_in 0 contents.entry.links (contents.entry.links + contents.entry.turns)
+        contents.entry.records.now) }
 {
     let mut draft = Draft::new();
-    let mut left = bytes;
-    for i in 0..links + turns {
-        let (record, rest) = if i < links {
-            read_link(left)
-        } else {
-            read_turn(left)
-        };
-        if draft.lay(record).is_err() {
-            return Err(ReadFault::RecordNotLaid(i + 1));
-        }
+    let mut left = contents.records;
+    for i in 0..contents.links + contents.turns {
+        let (record, rest) = read_record(i, contents.links, left);
+        draft.lay(record).or(Err(ReadFault::RecordNotLaid(i + 1)))?;
         left = rest;
     }
     Ok(draft)
@@ -106,9 +106,6 @@ fn lay_records(links: usize, turns: usize, bytes: &[u8]) -> Result<Draft, ReadFa
 pub fn read_image(draft: &mut Draft, bytes: &[u8]) -> Result<(), ReadFault>
     ensures { Reads bytes.now (drafted draft.old) result (drafted draft.new) }
 {
-    let Some((links, turns, bodies)) = read_contents(bytes) else {
-        return Err(ReadFault::ContentsWrong);
-    };
-    *draft = lay_records(links, turns, bodies)?;
+    *draft = lay_records(read_contents(bytes).ok_or(ReadFault::ContentsWrong)?)?;
     Ok(())
 }

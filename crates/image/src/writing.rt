@@ -1,12 +1,14 @@
 // Writing the image of a network.
 ghost use Rattle.std.specs.Prelude.{◌≡◌, ℕ, ◌+◌, ◌*◌, ◌≤◌, List, length};
 ghost use Rattle.std.specs.List.{flat_map};
+ghost use Rattle.text.specs.Put.{Put};
 ghost use Rattle.network.specs.Laid.{plan};
-ghost use Rattle.image.specs.Image.{record_bytes, link_record, turn_record, contents_entry, contents};
-ghost use Rattle.image.specs.Writes.{written, Writes};
-ghost use Rattle.std.proofs.Common.{rules};
+ghost use Rattle.image.specs.Image.{record_bytes, link_record, turn_record, contents};
+ghost use Rattle.image.specs.Writes.{Writes};
 
+use crate::entry::ContentsEntry;
 use network::{Link, Network, Refusal, Turn};
+use text::put_word;
 
 // What an image has a record of.
 trait Recorded: Copy {
@@ -15,14 +17,10 @@ trait Recorded: Copy {
     // The nine bytes of the record.
     fn record(self) -> [u8; 9]
         ensures { result ≡ bytes self };
-
-    ghost nine: { (x : Self) → length (bytes x) ≡ 9 };
 }
 
 impl Recorded for Link {
     ghost bytes = { λ l. record_bytes (link_record l) };
-
-    ghost nine = { Prim.search rules };
 
     fn record(self) -> [u8; 9] {
         let [s1, s0] = self.start.to_be_bytes();
@@ -35,8 +33,6 @@ impl Recorded for Link {
 impl Recorded for Turn {
     ghost bytes = { λ t. record_bytes (turn_record t) };
 
-    ghost nine = { Prim.search rules };
-
     fn record(self) -> [u8; 9] {
         let [i1, i0] = self.into.to_be_bytes();
         let [o1, o0] = self.out.to_be_bytes();
@@ -45,46 +41,30 @@ impl Recorded for Turn {
     }
 }
 
-// Writes bytes from a place on.
-fn put(bytes: &[u8], at: usize, buffer: &mut [u8])
-    requires { at + length bytes.now ≤ length buffer.old }
-    ensures { buffer.new ≡ written at bytes.now buffer.old }
+// Writes the records of items at a place, one after another, and says where they end.
+fn put_records<T: Recorded>(items: &[T], buffer: &mut [u8], from: usize) -> usize
+    requires { from + 9 * length items.now ≤ length buffer.old }
+    ensures ends { result ≡ from + 9 * length items.now }
+    ensures put { Put (flat_map T.Recorded.bytes items.now) buffer.old from buffer.new result }
 {
-    buffer[at..at + bytes.len()].copy_from_slice(bytes);
-}
-
-// Writes the records of items, one after another, from a place on.
-fn put_records<T: Recorded>(items: &[T], at: usize, buffer: &mut [u8])
-    requires { at + 9 * length items.now ≤ length buffer.old }
-    ensures { buffer.new ≡ written at (flat_map T.Recorded.bytes items.now) buffer.old }
-{
-    let mut next = at;
+    let mut at = from;
     for item in items {
-        put(&item.record(), next, buffer);
-        next += 9;
+        at = put_word(&item.record(), buffer, at);
     }
+    at
 }
 
-// The eight bytes of a contents entry.
-fn entry_bytes(kind: u8, count: u16, place: u32) -> [u8; 8]
-    ensures { result ≡ contents_entry kind count place }
-{
-    let [c1, c0] = count.to_be_bytes();
-    let [p3, p2, p1, p0] = place.to_be_bytes();
-    [kind, 0, c1, c0, p3, p2, p1, p0]
-}
-
-// Writes the table of contents for so many links and turn entries.
-fn put_contents(links: u16, turns: u16, buffer: &mut [u8])
+// Writes the table of contents for so many links and turn entries to the front, and says where it ends.
+fn put_contents(links: u16, turns: u16, buffer: &mut [u8]) -> usize
     requires { 16 ≤ length buffer.old }
-    ensures { buffer.new ≡ written 0 (contents links turns) buffer.old }
+    ensures { Put (contents links turns) buffer.old 0 buffer.new result }
 {
-    put(&entry_bytes(0x4C, links, 16), 0, buffer);
-    put(
-        &entry_bytes(0x54, turns, 16 + 9 * u32::from(links)),
-        8,
+    let at = put_word(&ContentsEntry::of_links(links).to_bytes(), buffer, 0);
+    put_word(
+        &ContentsEntry::of_turns(turns, links).to_bytes(),
         buffer,
-    );
+        at,
+    )
 }
 
 // Writes the image of a network to the front of a buffer, and answers how many bytes it has.
@@ -97,8 +77,7 @@ pub fn write_network(network: &Network, buffer: &mut [u8]) -> Result<usize, Refu
     if buffer.len() < size {
         return Err(Refusal::BufferTooShort);
     }
-    put_contents(links.len() as u16, turns.len() as u16, buffer);
-    put_records(links, 16, buffer);
-    put_records(turns, 16 + 9 * links.len(), buffer);
-    Ok(size)
+    let at = put_contents(links.len() as u16, turns.len() as u16, buffer);
+    let at = put_records(links, buffer, at);
+    Ok(put_records(turns, buffer, at))
 }

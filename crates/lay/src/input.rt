@@ -18,21 +18,19 @@ fn read_some<R: Read + Drop>(input: R, heap: Global) -> io::Result<Vec<u8>> {
 
 // All that a file holds, up to the limit.
 fn read_file(rt: &HostRuntime, path: &str) -> Result<Vec<u8>, Stop> {
-    match File::open(rt, path) {
-        Ok(file) => Ok(read_some(file, rt.alloc())?),
-        Err(error) => {
-            let line = format!(in rt.alloc(); "cannot read {path}: {error}")?;
-            Err(Stop::Line(line))
-        }
-    }
+    let file = File::open(rt, path).try_map_err(|error| -> Result<Stop, Stop> {
+        let line = format!(in rt.alloc(); "cannot read {path}: {error}")?;
+        Ok(Stop::Line(line))
+    })?;
+    Ok(read_some(file, rt.alloc())?)
 }
 
 pub(crate) fn read_town(rt: &HostRuntime) -> Result<Vec<u8>, Stop> {
-    let mut args = env::args(rt)?.skip(1);
-    let text = match args.next() {
+    let text = match env::args(rt)?.nth(1) {
         Some(path) => read_file(rt, path.as_str())?,
         None => read_some(rt.stdin(), rt.alloc())?,
     };
+    // A `usize` has no `From` into a `u64`, so the length is widened by `as`.
     if text.len() as u64 > MOST_BYTES {
         return Err(anyhow!("the town text is over 1,048,576 bytes").into());
     }

@@ -1,8 +1,7 @@
 // What stops the program.
-use std::alloc::AllocError;
-use std::{fmt, io};
+use std::fmt;
 
-// A line that says it, or an error that says itself.
+// A line that says it, or an error that says itself: an `anyhow::Error` keeps 120 bytes of a message, and a path may be longer.
 #[derive(Debug, Drop)]
 pub(crate) enum Stop {
     Line(String),
@@ -18,20 +17,8 @@ impl fmt::Display for Stop {
     }
 }
 
-impl From<anyhow::Error> for Stop {
-    fn from(error: anyhow::Error) -> Stop {
-        Stop::Other(error)
-    }
-}
-
-impl From<io::Error> for Stop {
-    fn from(error: io::Error) -> Stop {
-        Stop::Other(error.into())
-    }
-}
-
-impl From<AllocError> for Stop {
-    fn from(error: AllocError) -> Stop {
+impl<E: Into<anyhow::Error>> From<E> for Stop {
+    fn from(error: E) -> Stop {
         Stop::Other(error.into())
     }
 }

@@ -3,6 +3,5 @@ pub mod Metres
 pub mod TurnsFirst
 pub mod Narrowest
 pub mod Cost
-pub mod Put
 pub mod Texts
 pub mod Plain

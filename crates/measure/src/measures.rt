@@ -27,7 +27,8 @@ pub trait Measure {
     fn over_turn(&self, cost: Self::Cost, class: u8, extra: u32) -> Self::Cost
         ensures { rank result ≡ (ranks self.now).over_turn (rank cost) class extra };
 
-    // Whether the first cost is cheaper than the second.
+    // Whether the first cost is cheaper than the second. Each measure compares its own costs, since the trait asks no
+    // order of them.
     fn is_cheaper(&self, a: Self::Cost, b: Self::Cost) -> bool
         ensures { result ≡ nat_lt (rank a) (rank b) };
 }

@@ -5,7 +5,7 @@ ghost use Rattle.measure.specs.Narrowest.{narrowest, narrowest_lawful};
 use crate::measures::Measure;
 use network::Link;
 
-#[derive(Clone, Copy)]
+#[derive(Clone, Copy, Debug, Default, PartialEq, Eq)]
 pub struct Narrowest;
 
 impl Measure for Narrowest {

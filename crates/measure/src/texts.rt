@@ -1,3 +1,5 @@
+#![tactic(auto, using(crate::proofs::Decimals::length_word, crate::proofs::Decimals::length_metres))]
+
 // The texts of metres, of turns-first and of narrowest.
 ghost use Rattle.std.specs.Prelude.{◌≡◌};
 ghost use Rattle.measure.specs.Texts.{metres_text, turns_first_text, narrowest_text};
@@ -6,7 +8,8 @@ use crate::metres::Metres;
 use crate::narrowest::Narrowest;
 use crate::shown::Shown;
 use crate::turnsfirst::{ONE_TURN, TurnsFirst};
-use crate::writing::{put_decimal, put_metres, put_word};
+use crate::writing::put_metres;
+use text::{put_decimal, put_word};
 
 impl Shown for Metres {
     ghost text = { metres_text };

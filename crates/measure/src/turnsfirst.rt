@@ -9,10 +9,11 @@ use network::Link;
 // What one turn adds to a cost.
 pub(crate) const ONE_TURN: u64 = 4_294_967_296;
 
-#[derive(Clone, Copy)]
+#[derive(Clone, Copy, Debug, Default, PartialEq, Eq)]
 pub struct TurnsFirst;
 
-// What a turn of a class adds: one turn for left, right or back, and none for straight on or barred.
+// What a turn of a class adds: one turn for left, right or back, and none for straight on or barred. The class is the
+// number that a turn entry keeps.
 fn turn_of(class: u8) -> u64
     ensures { result ≡ turn_of class }
 {

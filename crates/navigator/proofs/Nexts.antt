@@ -1,7 +1,7 @@
 -- The ways out of a next. Assumes nothing.
-use Rattle.std.proofs.Common.{◌≡◌, ℕ, zero, suc, ◌+◌, ◌-◌, ◌*◌, ◌≤◌, true, false, ◌⊎◌, List, ◌++◌, length, take, drop, replicate, Some, Option, sym, refl, ap, ◌∙◌, subst, inl, inr, arith}
+use Rattle.std.proofs.Common.{◌≡◌, ℕ, zero, suc, ◌+◌, ◌-◌, ◌*◌, ◌≤◌, true, ◌⊎◌, List, ◌++◌, length, take, drop, replicate, sym, refl, ap, ◌∙◌, subst, inl, inr, arith}
 use Rattle.std.proofs.lemmas.List.{length-take-le}
-use Rattle.std.proofs.lemmas.Bool.{ne_eqb, false≢true}
+use Rattle.std.proofs.lemmas.Bool.{false≢true}
 use Rattle.network.specs.Roads.{Roads}
 use Rattle.network.specs.Marks.{both, marks_of}
 use Rattle.network.specs.Shared.{shared}
@@ -14,32 +14,13 @@ use Rattle.routing.specs.Book.{place, FoundIn, Cleared}
 use Rattle.navigator.specs.declared.question.Question.{Question}
 use Rattle.navigator.specs.declared.question.Question.TheVariants.{Open}
 use Rattle.navigator.specs.State.{State}
-use Rattle.navigator.specs.Checks.{Checked, Passed}
+use Rattle.navigator.specs.Checks.{Passed}
 use Rattle.navigator.specs.Answers.{Answer, refused, route}
 use Rattle.navigator.specs.Listing.{filled, with_route, route_at}
 use Rattle.navigator.specs.Searches.{next_rows, Next, HandsOut, NoneLeft, TableAfter, worked}
-use Rattle.navigator.proofs.Rows.{checked_so, all_passed, told_early}
+use Rattle.navigator.proofs.Rows.{all_passed}
 use Rattle.navigator.proofs.Places.{simple_counted, written_holds, written_before, place_stays}
 use Rattle.navigator.proofs.Shares.{shared_with_place, simple_shared}
-
--- refused by a row above 16
-module _ (s : State) (book : List ℕ) (costs told : ℕ) (T : Type 0) (none : T → ⊥)
-    (checked : Checked (next_rows s book costs) (λ n. ◌≡◌ {A = Option ℕ} (Some told) (Some n)) T) where
-  pub next_refused : (m : Ranks) → Next m s book costs (refused told) s book
-  next_refused m =
-      checked_so (next_rows s book costs) (λ n. ◌≡◌ {A = Option ℕ} (Some told) (Some n))
-      (λ n. (refused told ≡ refused n) × (s ≡ s) × (book ≡ book)) T _ (λ n e. (same n e, refl, refl)) (λ t. absurd (none t)) checked
-    where
-      same : (n : ℕ) → ◌≡◌ {A = Option ℕ} (Some told) (Some n) → refused told ≡ refused n
-      same n e = cc
-
-  pub next_not_searched : worked (refused told) ≡ false
-  next_not_searched =
-      let low = told_early (next_rows s book costs) told T (omega arith, (omega arith, (omega arith, (omega arith, tt)))) checked none in
-      ne_eqb told 16 (omega arith)
-
-pub table_left : {C : Type 0} (rank : C → ℕ) (m : Ranks) (answer : Answer) (table : List C) → worked answer ≡ false → TableAfter rank m answer table table
-table_left rank m answer table e = record { searched = λ t. absurd (false≢true (sym e ∙ t)); refused_before = λ _. refl }
 
 pub table_cleared : {C : Type 0} (rank : C → ℕ) (m : Ranks) (answer : Answer) (table table' : List C) → worked answer ≡ true → Cleared rank m table table'
     → TableAfter rank m answer table table'

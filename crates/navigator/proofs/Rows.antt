@@ -6,7 +6,7 @@ use Rattle.navigator.specs.declared.question.Question.{Question}
 use Rattle.navigator.specs.declared.question.Question.TheVariants.{Shut, Open}
 use Rattle.navigator.specs.Questions.{listed}
 use Rattle.navigator.specs.Checks.{Row, Checked, Passed}
-use Rattle.navigator.specs.Searches.{Legible, next_rows}
+use Rattle.navigator.specs.Searches.{next_rows}
 
 -- refused by a row, or past them all
 pub by_rows : (rows : List Row) {R : ℕ → Type 0} {T : Type 0} (P : Type 0) → ((n : ℕ) → R n → P) → (Passed rows → T → P) → Checked rows R T → P
@@ -19,25 +19,9 @@ past_rows [] R T p c = c
 past_rows (row ∷ rows) R T p (inl c) = absurd (p.0 c.0)
 past_rows (row ∷ rows) R T p (inr c) = past_rows rows R T p.1 c.1
 
--- the same rows, with other words for what follows
-pub checked_so : (rows : List Row) (R R' : ℕ → Type 0) (T T' : Type 0) → ((n : ℕ) → R n → R' n) → (T → T') → Checked rows R T → Checked rows R' T'
-checked_so [] R R' T T' f g c = g c
-checked_so (row ∷ rows) R R' T T' f g (inl c) = inl (c.0, f row.told c.1)
-checked_so (row ∷ rows) R R' T T' f g (inr c) = inr (c.0, checked_so rows R R' T T' f g c.1)
-
 pub all_passed : (rows : List Row) (R : ℕ → Type 0) (T : Type 0) → Passed rows → T → Checked rows R T
 all_passed [] R T p t = t
 all_passed (row ∷ rows) R T p t = inr (p.0, all_passed rows R T p.1 t)
-
-abbrev pub Below16 : List Row → Type 0
-Below16 [] = Unit {0}
-Below16 (row ∷ rows) = (row.told < 16) × Below16 rows
-
--- the number of a row that refused is below 16
-pub told_early : (rows : List Row) (k : ℕ) (T : Type 0) → Below16 rows → Checked rows (λ n. ◌≡◌ {A = Option ℕ} (Some k) (Some n)) T → (T → ⊥) → k < 16
-told_early [] k T low c none = absurd (none c)
-told_early (row ∷ rows) k T low (inl c) none = let e : k ≡ row.told = cc in omega (arith, low.0)
-told_early (row ∷ rows) k T low (inr c) none = told_early rows k T low.1 c.1 none
 
 -- no row refused
 pub went_on : (rows : List Row) (T : Type 0) → Checked rows (λ n. ◌≡◌ {A = Option ℕ} None (Some n)) T → Passed rows × T
@@ -69,15 +53,7 @@ module _ (roads : Roads) (book : List ℕ) (costs from to n : ℕ) (R : ℕ → 
   pub legible : (q : Question) → q ≡ Open from to n → books.Legible roads from to book n → T → Here q
   legible q is all t = subst Here (sym is) (before_legible (inr (λ not. not all, t)))
 
--- what is said of an open question's nodes and number
-pub legible_now : (roads : Roads) (q : Question) (book : List ℕ) (from to n : ℕ) → q ≡ Open from to n → books.Legible roads from to book n
-    → Legible (record { roads = roads; question = q }) book
-legible_now roads q book from to n is all = subst (λ (q : Question). Legible (record { roads = roads; question = q }) book) (sym is) all
-
-pub legible_was : (roads : Roads) (q : Question) (book : List ℕ) (from to n : ℕ) → q ≡ Open from to n
-    → Legible (record { roads = roads; question = q }) book → books.Legible roads from to book n
-legible_was roads q book from to n is all = subst (λ (q : Question). Legible (record { roads = roads; question = q }) book) is all
-
+-- what the rows of next leave of an open question's number and of what is lent
 at_least : (a b : ℕ) → (a < b → ⊥) → b ≤ a
 at_least a b n = omega (arith, n)
 

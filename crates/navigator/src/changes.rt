@@ -16,9 +16,7 @@ impl<M: Measure + Drop> Map<M> {
         ensures after { state self.new.town ≡ marked_so (state self.old.town) link true }
         ensures measure { self.new.measure ≡ self.old.measure }
     {
-        self.town.check_change(link)?;
-        self.town.closed.add(link as usize);
-        Ok(())
+        self.town.mark(link, true)
     }
 
     // Opens a link; it may be open already.
@@ -27,9 +25,7 @@ impl<M: Measure + Drop> Map<M> {
         ensures after { state self.new.town ≡ marked_so (state self.old.town) link false }
         ensures measure { self.new.measure ≡ self.old.measure }
     {
-        self.town.check_change(link)?;
-        self.town.closed.remove(link as usize);
-        Ok(())
+        self.town.mark(link, false)
     }
 
     // Changes the entry of a pair, or adds one where the pair has none.

@@ -3,37 +3,43 @@ ghost use Rattle.std.specs.Prelude.{◌≡◌, Some};
 ghost use Rattle.network.specs.Refusals.{refusal_in};
 ghost use Rattle.navigator.specs.State.{state};
 ghost use Rattle.navigator.specs.Checks.{Checked};
-ghost use Rattle.navigator.specs.Searches.{Legible, next_rows, trial_rows};
-ghost use Rattle.navigator.specs.Opened.{Opened};
+ghost use Rattle.navigator.specs.Searches.{next_rows, trial_rows};
+ghost use Rattle.navigator.specs.Opened.{Opened, OpenedIn};
 
-use crate::question::{Asked, Call, Question};
+use crate::question::{Asked, Call};
 use crate::town::Town;
 use network::Refusal;
-use routing::{Roads, is_legible};
+use routing::{Listing, Trip};
+use unlisted::ListedRoutes;
 
 impl Town {
-    // The open question, where next may search for a route of it.
-    pub(crate) fn check_next(&self, book: &[u16], costs: usize) -> Result<Asked, Refusal>
-        ensures { Checked (next_rows (state self.now) book.now costs) (λ n. refusal_in result ≡ Some n) (Opened self.now.question result × Legible (state self.now) book.now) }
+    // The open question with its listed routes, where next may search for a route of it.
+    pub(crate) fn check_next<'a, 'b>(
+        &'a self,
+        book: &'b [u16],
+        costs: usize,
+    ) -> Result<ListedRoutes<'a, 'b>, Refusal>
+        ensures { Checked (next_rows (state self.now) book.now costs) (λ n. refusal_in result ≡ Some n) (OpenedIn (state self.now) book.now result) }
     {
         self.question.admit(Call::Next)?;
-        let Question::Open { from, to, listed } = self.question else {
-            return Err(Refusal::NoQuestion);
-        };
+        let asked = self.question.asked()?;
         if book.len() < 16384 || costs < 2048 {
             return Err(Refusal::LentTooShort);
         }
-        if listed >= 16 {
+        if asked.listed >= 16 {
             return Err(Refusal::BookFull);
         }
-        let roads = Roads {
-            network: &self.network,
-            closed: &self.closed,
+        let trip = Trip {
+            roads: self.roads(),
+            from: asked.from,
+            to: asked.to,
         };
-        if !is_legible(roads, from, to, book, listed) {
+        let listed = asked.listed;
+        let listing = Listing { trip, book, listed };
+        if !listing.is_legible() {
             return Err(Refusal::BookSpoilt);
         }
-        Ok(Asked { from, to, listed })
+        Ok(ListedRoutes { listing })
     }
 
     // The open question, where trial may search without a link.
@@ -41,15 +47,13 @@ impl Town {
         ensures { Checked (trial_rows (state self.now) link costs) (λ n. refusal_in result ≡ Some n) (Opened self.now.question result) }
     {
         self.question.admit(Call::Trial)?;
-        let Question::Open { from, to, listed } = self.question else {
-            return Err(Refusal::NoQuestion);
-        };
+        let asked = self.question.asked()?;
         if costs < 2048 {
             return Err(Refusal::LentTooShort);
         }
         if !self.network.is_laid(link) {
             return Err(Refusal::NoSuchLink);
         }
-        Ok(Asked { from, to, listed })
+        Ok(asked)
     }
 }

@@ -24,17 +24,6 @@ impl CopiedMarks {
         copied.closed.add(link);
         copied
     }
-
-    // Gives the link its old mark.
-    fn restore(&mut self)
-        ensures { marks self.exit.now.closed ≡ marked (marks self.entry.now.closed) self.entry.now.link self.entry.now.old }
-    {
-        if self.old {
-            self.closed.add(self.link);
-        } else {
-            self.closed.remove(self.link);
-        }
-    }
 }
 
 // While it stands, the link is closed in the copy.
@@ -47,7 +36,8 @@ impl Drop for Guard<'_> {
     fn drop(self)
         ensures { marks self.exit.0.now.closed ≡ marked (marks self.entry.copied.now.closed) self.entry.copied.now.link self.entry.copied.now.old }
     {
-        self.copied.restore();
+        let CopiedMarks { link, old, .. } = *self.copied;
+        self.copied.closed.set(link, old);
         let Guard { copied: _ } = self;
     }
 }

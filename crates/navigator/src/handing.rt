@@ -9,7 +9,7 @@ use crate::map::Map;
 use crate::question::Question;
 use measure::Measure;
 use network::Refusal;
-use routing::Roads;
+use routing::{Listing, Trip};
 use unlisted::cheapest_unlisted;
 
 impl<M: Measure + Drop> Map<M> {
@@ -24,30 +24,22 @@ impl<M: Measure + Drop> Map<M> {
         ensures table { TableAfter M.Measure.rank (M.Measure.ranks self.old.measure) (handed M.Measure.rank result) table.old table.new }
         ensures measure { self.new.measure ≡ self.old.measure }
     {
-        let asked = self.town.check_next(book, table.len())?;
-        let roads = Roads {
-            network: &self.town.network,
-            closed: &self.town.closed,
-        };
+        let routes = self.town.check_next(book, table.len())?;
+        let Listing {
+            trip: Trip { from, to, .. },
+            listed,
+            ..
+        } = routes.listing;
         let mut line = [0u16; 1024];
-        let Some(found) = cheapest_unlisted(
-            &self.measure,
-            roads,
-            asked.from,
-            asked.to,
-            book,
-            asked.listed,
-            table,
-            &mut line,
-        ) else {
-            return Err(Refusal::NoFurtherRoute);
-        };
-        list_route(book, asked.listed, &line);
+        let found = cheapest_unlisted(&self.measure, routes, table, &mut line).ok_or(
+            Refusal::NoFurtherRoute,
+        )?;
+        list_route(book, listed, &line);
         let shared = shared_with_first(&line[..found.count], book);
         self.town.question = Question::Open {
-            from: asked.from,
-            to: asked.to,
-            listed: asked.listed + 1,
+            from,
+            to,
+            listed: listed + 1,
         };
         Ok((found.cost, found.count, shared))
     }

@@ -13,8 +13,8 @@ use crate::map::Map;
 use crate::question::Asked;
 use measure::Measure;
 use network::{Network, Refusal};
-use routing::Roads;
-use unlisted::cheapest_unlisted;
+use routing::{Listing, Roads, Trip};
+use unlisted::{ListedRoutes, cheapest_unlisted};
 
 impl<M: Measure + Drop> Map<M> {
     // The least cost of a route of the question without the link, listed or not.
@@ -33,6 +33,7 @@ impl<M: Measure + Drop> Map<M> {
 }
 
 // The least cost of a simple route of the question over the links that are open in the copy, while a guard keeps it so.
+// A caller may lend a longer table, and the contract says what it holds after.
 fn least_guarded<M: Measure>(
     measure: &M,
     network: &Network,
@@ -46,11 +47,11 @@ fn least_guarded<M: Measure>(
     ensures table { Cleared M.Measure.rank (M.Measure.ranks measure.now) table.old table.new }
 {
     let guard = Guard { copied };
-    let cost = least_cost(measure, network, &*guard.copied, asked, table)?;
-    Ok(cost)
+    least_cost(measure, network, guard.copied, asked, table)
 }
 
 // The least cost of a simple route of the question over links that are not closed.
+// A caller may lend a longer table, and the contract says what it holds after.
 fn least_cost<'a, M: Measure>(
     measure: &M,
     network: &'a Network,
@@ -66,18 +67,21 @@ fn least_cost<'a, M: Measure>(
         network,
         closed: &copied.closed,
     };
-    let mut line = [0u16; 1024];
-    let Some(found) = cheapest_unlisted(
-        measure,
+    let trip = Trip {
         roads,
-        asked.from,
-        asked.to,
-        &[],
-        0,
-        table,
-        &mut line,
-    ) else {
-        return Err(Refusal::NoFurtherRoute);
+        from: asked.from,
+        to: asked.to,
     };
+    let routes = ListedRoutes {
+        listing: Listing {
+            trip,
+            book: &[],
+            listed: 0,
+        },
+    };
+    let mut line = [0u16; 1024];
+    let found = cheapest_unlisted(measure, routes, table, &mut line).ok_or(
+        Refusal::NoFurtherRoute,
+    )?;
     Ok(found.cost)
 }

@@ -111,7 +111,7 @@ module _ (p : Plan) (into out letter extra : ℕ) where
   pub change_made : (class : ℕ) (new : List Turn) → set_turn_refusal p into out letter extra ≡ None → class_of letter ≡ Some class
       → new ≡ changed p.turns (record { into = into; out = out; class = class; extra = extra })
       → record { links = p.links; turns = new } ≡ with_set_turn p into out letter extra
-  change_made class new passed letters is =
+  change_made class turns passed letters is =
       ap (λ (x : List Turn). record { links = p.links; turns = x }) is
       ∙ ap (λ (o : Option ℕ). record { links = p.links; turns = changed p.turns (record { into = into; out = out; class = unwrap_or o 0; extra = extra }) }) (sym letters)
       ∙ sym (ap (λ (o : Option ℕ). unless o p (record { links = p.links; turns = changed p.turns (record { into = into; out = out; class = unwrap_or (class_of letter) 0; extra = extra }) })) passed)

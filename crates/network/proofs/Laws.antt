@@ -1,6 +1,6 @@
 -- The laws of a plan, kept when a link or an entry is laid after the others. Assumes nothing.
-use Rattle.std.proofs.Common.{◌≡◌, ℕ, zero, suc, ◌+◌, ◌-◌, ◌<◌, ◌≤◌, Bool, true, false, cond, not, ◌||◌, eqb, ltb, leb, List, [], ◌∷◌, ◌++◌, length, get_or, is_some, Some, None, sym, ap, ◌∙◌, subst, ap₂, ⊎_elim, arith}
-use Rattle.std.proofs.lemmas.List.{get_or_append_left, get_or_push, length_push, length-take-le}
+use Rattle.std.proofs.Common.{◌≡◌, ℕ, suc, ◌+◌, ◌<◌, ◌≤◌, Bool, true, false, cond, not, ◌||◌, eqb, ltb, leb, List, [], ◌∷◌, ◌++◌, length, get_or, is_some, Some, None, sym, ap, ◌∙◌, subst, ap₂, ⊎_elim, arith}
+use Rattle.std.proofs.lemmas.List.{get_or_append_left, get_or_push, length_push}
 use Rattle.std.proofs.lemmas.Bool.{cases_lt, or_parts, and_parts, not-false, ltb-false, leb-true, eqb-true}
 use Rattle.network.specs.declared.link.Link.{Link}
 use Rattle.network.specs.declared.turn.Turn.{Turn}
@@ -8,8 +8,8 @@ use Rattle.network.specs.declared.network.Network.{Network}
 use Rattle.network.specs.Laid.{plan}
 use Rattle.network.specs.Plan.{Plan, Lawful, no_link, no_turn, link, laid, Laid, last_start, Node, LinkWithin, StartsRise, EntryWithin, Meets, EntriesMeet, same_pair, has_entry, PairsApart}
 use Rattle.network.specs.Letters.{class_of}
-use Rattle.network.specs.Refusals.{Row, row, first_refusal}
-use Rattle.network.specs.Laying.{outside, pair_rows, letter_rows, turn_refusal}
+use Rattle.network.specs.Refusals.{row, first_refusal}
+use Rattle.network.specs.Laying.{outside, pair_rows, letter_rows, room_rows, turn_refusal}
 use Rattle.network.proofs.Rows.{passed_row, passed_both, passed_before, refused_before}
 use Rattle.network.proofs.Entries.{no_place_has}
 
@@ -31,9 +31,6 @@ last_start_is links i e = ap (λ (n : ℕ). (link links n).start) (e ∙ let f :
 pub starts_rise_push : (links : List Link) (l : Link) → StartsRise links → last_start links ≤ l.start → StartsRise (links ++ l ∷ [])
 starts_rise_push links l rise above i h = ⊎_elim before last (cases_lt (i + 1) (length links))
   where
-    all : List Link
-    all = links ++ l ∷ []
-
     before : i + 1 < length links → (get_or (links ++ l ∷ []) i no_link).start ≤ (get_or (links ++ l ∷ []) (i + 1) no_link).start
     before b =
         let low : i < length links = omega arith in
@@ -90,10 +87,10 @@ pub lawful : (n : Network) → Lawful (plan n)
 lawful n = (n.sound, (n.rising, (n.marked, (n.meeting, (n.apart, tt)))))
 
 pub links_few : (n : Network) → length (plan n).links ≤ 1024
-links_few n = omega (arith, length-take-le n.links.count n.links.places (omega arith))
+links_few n = n.few
 
 pub turns_few : (n : Network) → length (plan n).turns ≤ 2048
-turns_few n = omega (arith, length-take-le n.turns.entries.count n.turns.entries.places (omega arith))
+turns_few n = n.turns.few
 
 pub lawful_add_link : (p : Plan) (new : List Link) (l : Link) → new ≡ p.links ++ l ∷ []
     → Lawful p → LinkWithin l → last_start p.links ≤ l.start → Lawful (record { links = new; turns = p.turns })
@@ -160,19 +157,24 @@ class_within letter class =
 
 -- where an entry is refused by its pair, and by its letter or extra
 module _ (p : Plan) (into out letter extra n : ℕ) where
-  abbrev rest : List Row
-  rest = row 5 (eqb (length p.turns) 2048) ∷ []
-
   pub refused_by_pair : first_refusal (pair_rows p into out) ≡ Some n → turn_refusal p into out letter extra ≡ Some n
   refused_by_pair e =
-      refused_before (pair_rows p into out) (row 8 (has_entry p.turns into out) ∷ letter_rows letter extra ++ rest) n e
+      refused_before (pair_rows p into out) (row 8 (has_entry p.turns into out) ∷ letter_rows letter extra ++ room_rows p) n e
 
   pub refused_by_letter : first_refusal (pair_rows p into out) ≡ None → has_entry p.turns into out ≡ false
       → first_refusal (letter_rows letter extra) ≡ Some n → turn_refusal p into out letter extra ≡ Some n
   refused_by_letter pair free e =
-      passed_before (pair_rows p into out) (row 8 (has_entry p.turns into out) ∷ letter_rows letter extra ++ rest) pair
-      ∙ ap (λ (b : Bool). cond b (Some 8) (first_refusal (letter_rows letter extra ++ rest))) free
-      ∙ refused_before (letter_rows letter extra) rest n e
+      passed_before (pair_rows p into out) (row 8 (has_entry p.turns into out) ∷ letter_rows letter extra ++ room_rows p) pair
+      ∙ ap (λ (b : Bool). cond b (Some 8) (first_refusal (letter_rows letter extra ++ room_rows p))) free
+      ∙ refused_before (letter_rows letter extra) (room_rows p) n e
+
+-- an entry that passes its pair, its letter and its extra is refused by the room alone
+pub refused_by_room : (p : Plan) (into out letter extra : ℕ) → first_refusal (pair_rows p into out) ≡ None → has_entry p.turns into out ≡ false
+    → first_refusal (letter_rows letter extra) ≡ None → turn_refusal p into out letter extra ≡ first_refusal (room_rows p)
+refused_by_room p into out letter extra pair free letters =
+    passed_before (pair_rows p into out) (row 8 (has_entry p.turns into out) ∷ letter_rows letter extra ++ room_rows p) pair
+    ∙ ap (λ (b : Bool). cond b (Some 8) (first_refusal (letter_rows letter extra ++ room_rows p))) free
+    ∙ passed_before (letter_rows letter extra) (room_rows p) letters
 
 -- what an entry has passed that is laid
 pub turn_passed : (p : Plan) (into out letter extra : ℕ) → turn_refusal p into out letter extra ≡ None
@@ -189,19 +191,3 @@ turn_passed p into out letter extra e =
 pub letter_known : (letter extra : ℕ) → first_refusal (letter_rows letter extra) ≡ None → is_some (class_of letter) ≡ true
 letter_known letter extra e =
     not-false (is_some (class_of letter)) (passed_row (row 9 (not (is_some (class_of letter)))) (row 10 (ltb 1000000 extra) ∷ []) e).0
-
--- the starts never fall over any number of links
-pub starts_rise_through : (links : List Link) → StartsRise links → (i k : ℕ) → i + k < length links
-    → (get_or links i no_link).start ≤ (get_or links (i + k) no_link).start
-starts_rise_through links rise i zero h = let e : i + 0 ≡ i = omega arith in rw e (omega arith)
-starts_rise_through links rise i (suc k) h =
-    let before = starts_rise_through links rise i k (omega arith) in
-    let up = rise (i + k) (omega arith) in
-    let e : i + suc k ≡ i + k + 1 = omega arith in
-    rw e (omega arith)
-
-pub starts_rise_to : (links : List Link) → StartsRise links → (i j : ℕ) → i ≤ j → j < length links
-    → (get_or links i no_link).start ≤ (get_or links j no_link).start
-starts_rise_to links rise i j low h =
-    let e : i + (j - i) ≡ j = omega arith in
-    subst (λ (n : ℕ). (get_or links i no_link).start ≤ (get_or links n no_link).start) e (starts_rise_through links rise i (j - i) (omega arith))

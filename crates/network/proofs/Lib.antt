@@ -9,3 +9,4 @@ pub mod Words
 pub mod Marked
 pub mod Shares
 pub mod Turns
+mod Starts

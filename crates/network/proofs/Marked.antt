@@ -3,6 +3,7 @@ use Rattle.std.proofs.Common.{◌≡◌, ℕ, zero, suc, ◌+◌, ◌*◌, ◌<�
 use Rattle.std.proofs.lemmas.List.{get_or_past, set_past, length-set, get_or-set_same, get_or-set_other, get_or-replicate, length-replicate}
 use Rattle.std.proofs.lemmas.List.Sums.{fold_more}
 use Rattle.std.proofs.lemmas.Bool.{cases_lt, cases_eq, eq-eqb, ne_eqb}
+use Rattle.std.proofs.Math.Bool.{or-false}
 use Rattle.network.specs.declared.linkset.LinkSet.{LinkSet}
 use Rattle.network.specs.Marks.{marks, marked, added, marks_of}
 use Rattle.network.specs.Shared.{stands_in}
@@ -68,10 +69,6 @@ all_added_has ms (x ∷ ns) n h l =
     ∙ ap (λ (b : Bool). stands_in n ns || b) (added_has ms x n h l)
     ∙ or_swap (stands_in n ns) (eqb n x) (get_or (false ∷ ms) n false)
 
-or_none : (b : Bool) → (b || false) ≡ b
-or_none true = refl
-or_none false = refl
-
 -- the marks of a list tell which links stand in it
 pub marks_of_has : (ns : List ℕ) (n : ℕ) → 1 ≤ n → n ≤ 1024 → get_or (false ∷ marks_of ns) n false ≡ stands_in n ns
 unfolding marks_of
@@ -79,4 +76,4 @@ marks_of_has ns zero h l = absurd (omega arith)
 marks_of_has ns (suc n) h l =
     all_added_has (replicate 1024 false) ns (suc n) h (omega (arith, length-replicate 1024 false))
     ∙ ap (λ (b : Bool). stands_in (suc n) ns || b) (get_or-replicate 1024 n false false (omega arith))
-    ∙ or_none (stands_in (suc n) ns)
+    ∙ or-false (stands_in (suc n) ns)

@@ -1,11 +1,12 @@
 -- Words side by side, and the marks that their bits are. Assumes nothing.
-use Rattle.std.proofs.Common.{◌≡◌, ℕ, zero, suc, ◌+◌, ◌-◌, ◌*◌, ◌/◌, ◌%◌, ◌^◌, ◌<◌, ◌≤◌, Bool, true, false, eqb, List, [], ◌∷◌, ◌++◌, length, get_or, take, set, sym, refl, ap, ◌∙◌, ap₂, arith}
+use Rattle.std.proofs.Common.{◌≡◌, ℕ, zero, suc, ◌+◌, ◌-◌, ◌*◌, ◌/◌, ◌%◌, ◌^◌, ◌<◌, ◌≤◌, Bool, true, false, eqb, List, [], ◌∷◌, ◌++◌, length, get_or, set, sym, refl, ap, ◌∙◌, ap₂, arith}
 use lib.Bits.{bit_and, bit_or}
-use lib.Count.{ones}
 use Rattle.std.proofs.lemmas.Nat.{one_shl}
-use Rattle.std.proofs.lemmas.List.{get_or_append_left, get_or-append_right, set-append_left, set-append_right, length-append, length-take-le, take_more, flat_map_more}
+use Rattle.std.specs.List.{sum_by, zip}
+use Rattle.std.proofs.lemmas.List.{get_or_append_left, get_or-append_right, set-append_left, set-append_right, length-append}
+use Rattle.std.proofs.lemmas.List.Sums.{sum_by-cons}
 use Rattle.network.specs.Marks.{bits, all_bits, marked, both}
-use Rattle.network.proofs.Bits.{length_bits, bit_at, bits_with, bits_without, both_bits}
+use Rattle.network.proofs.Bits.{length_bits, bit_at, bits_with, bits_without}
 
 mark_at : (ws : List ℕ) (q j : ℕ) (d : Bool) → q < length ws → j < 64
     → get_or (all_bits ws) (64 * q + j) d ≡ eqb (get_or ws q 0 / 2 ^ j % 2) 1
@@ -81,20 +82,23 @@ both_append [] (n ∷ ns) us vs e = absurd (omega arith)
 both_append (m ∷ ms) [] us vs e = absurd (omega arith)
 both_append (m ∷ ms) (n ∷ ns) us vs e = omega (arith, both_append ms ns us vs (omega arith))
 
-words_more : (ws : List ℕ) (i : ℕ) → i < length ws
-    → all_bits (take (i + 1) ws) ≡ all_bits (take i ws) ++ bits 64 (get_or ws i 0)
-words_more ws i h = ap all_bits (take_more ws i 0 h) ∙ sym (flat_map_more (bits 64) [] (take i ws) (get_or ws i 0))
+pub both_few : (ms ns : List Bool) → both ms ns ≤ length ms
+unfolding both
+both_few [] ns = omega arith
+both_few (m ∷ ms) [] = omega arith
+both_few (true ∷ ms) (true ∷ ns) = omega (arith, both_few ms ns)
+both_few (true ∷ ms) (false ∷ ns) = omega (arith, both_few ms ns)
+both_few (false ∷ ms) (n ∷ ns) = omega (arith, both_few ms ns)
 
--- one more word of each
-pub both_more : (xs ys : List ℕ) (i : ℕ) → i < length xs → i < length ys → get_or xs i 0 < 2 ^ 64
-    → both (all_bits (take (i + 1) xs)) (all_bits (take (i + 1) ys))
-    ≡ both (all_bits (take i xs)) (all_bits (take i ys)) + ones (bit_and (get_or xs i 0) (get_or ys i 0))
-both_more xs ys i h l small =
-    let long : length (all_bits (take i xs)) ≡ length (all_bits (take i ys)) =
-    length_words (take i xs)
-    ∙ ap (λ (n : ℕ). 64 * n) (length-take-le i xs (omega arith) ∙ sym (length-take-le i ys (omega arith)))
-    ∙ sym (length_words (take i ys))
-    in
-    ap₂ both (words_more xs i h) (words_more ys i l)
-    ∙ both_append (all_bits (take i xs)) (all_bits (take i ys)) (bits 64 (get_or xs i 0)) (bits 64 (get_or ys i 0)) long
-    ∙ ap (λ (n : ℕ). both (all_bits (take i xs)) (all_bits (take i ys)) + n) (both_bits 64 (get_or xs i 0) (get_or ys i 0) small)
+-- how many bits two words share
+abbrev pub in_both : ℕ × ℕ → ℕ
+in_both p = both (bits 64 p.0) (bits 64 p.1)
+
+pub both_words : (xs ys : List ℕ) → length xs ≡ length ys → both (all_bits xs) (all_bits ys) ≡ sum_by in_both (zip xs ys)
+unfolding both
+both_words [] ys e = refl
+both_words (x ∷ xs) [] e = absurd (omega arith)
+both_words (x ∷ xs) (y ∷ ys) e =
+    both_append (bits 64 x) (bits 64 y) (all_bits xs) (all_bits ys) (length_bits 64 x ∙ sym (length_bits 64 y))
+    ∙ ap (λ (n : ℕ). both (bits 64 x) (bits 64 y) + n) (both_words xs ys (omega arith))
+    ∙ sym (sum_by-cons in_both (x, y) (zip xs ys))

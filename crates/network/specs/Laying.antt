@@ -52,18 +52,28 @@ pair_rows plan into out =
 abbrev pub letter_rows : (letter extra : ℕ) → List Row
 letter_rows letter extra = row 9 (not (is_some (class_of letter))) ∷ row 10 (nat_lt 1000000 extra) ∷ []
 
+-- there is room for one more entry
+abbrev pub room_rows : Plan → List Row
+room_rows plan = row 5 (length plan.turns == 2048) ∷ []
+
 abbrev pub turn_rows : Plan → (into out letter extra : ℕ) → List Row
 turn_rows plan into out letter extra =
     pair_rows plan into out
     ++ (row 8 (has_entry plan.turns into out)
     ∷ letter_rows letter extra
-    ++ (row 5 (length plan.turns == 2048) ∷ []))
+    ++ room_rows plan)
 
 abbrev pub turn_refusal : Plan → (into out letter extra : ℕ) → Option ℕ
 turn_refusal plan into out letter extra = first_refusal (turn_rows plan into out letter extra)
 
 abbrev pub add_turn : Plan → Turn → Plan
 add_turn plan t = record { links = plan.links; turns = plan.turns ++ (t ∷ []) }
+
+-- the plan after an entry was added, if there was room for it
+abbrev pub with_entry : Plan → (into out class extra : ℕ) → Plan
+with_entry plan into out class extra =
+    unless (first_refusal (room_rows plan)) plan
+    (add_turn plan (record { into = into; out = out; class = class; extra = extra }))
 
 abbrev pub with_turn : Plan → (into out letter extra : ℕ) → Plan
 with_turn plan into out letter extra =

@@ -1,4 +1,3 @@
-pub mod Tables
 pub mod Letters
 pub mod Plan
 pub mod Index

@@ -3,11 +3,10 @@ ghost use Rattle.std.specs.Prelude.{◌≡◌, length};
 ghost use Rattle.network.specs.Plan.{empty};
 ghost use Rattle.network.specs.Laid.{drafted};
 
-use crate::link::Link;
 use crate::network::Network;
 use crate::starthints::StartHints;
-use crate::table::Table;
 use crate::turntable::TurnTable;
+use arrayvec::ArrayVec;
 
 #[derive(Drop)]
 pub struct Draft {
@@ -21,7 +20,7 @@ impl Draft {
     {
         Draft {
             network: Network {
-                links: Table::new(Link::NONE),
+                links: ArrayVec::new(),
                 turns: TurnTable::new(),
                 starts: StartHints::new(),
             },

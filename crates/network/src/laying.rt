@@ -1,9 +1,10 @@
 // Laying links and turn entries in a draft.
-ghost use Rattle.std.specs.Prelude.{◌≡◌, not, IfOk, Some};
+ghost use Rattle.std.specs.Prelude.{◌≡◌, ◌≤◌, false, not, IfOk, Some, None};
 ghost use Rattle.network.specs.Refusals.{refusal_in, first_refusal};
 ghost use Rattle.network.specs.Laid.{plan, drafted};
 ghost use Rattle.network.specs.Letters.{class_of};
-ghost use Rattle.network.specs.Laying.{outside, link_refusal, with_link, pair_rows, letter_rows, turn_refusal, with_turn, record_refusal, with_record};
+ghost use Rattle.network.specs.Plan.{has_entry};
+ghost use Rattle.network.specs.Laying.{outside, link_refusal, with_link, with_entry, pair_rows, letter_rows, room_rows, turn_refusal, with_turn, record_refusal, with_record};
 
 use crate::draft::Draft;
 use crate::link::Link;
@@ -16,7 +17,7 @@ use crate::turn::{Turn, class_of};
 pub fn is_node(node: u32) -> bool
     ensures { result ≡ not (outside node) }
 {
-    node >= 1 && node <= 512
+    (1..=512).contains(&node)
 }
 
 // The class of a letter, where letter and extra are lawful.
@@ -24,9 +25,7 @@ pub(crate) fn check_letter(letter: char, extra: u32) -> Result<u8, Refusal>
     ensures answer { refusal_in result ≡ first_refusal (letter_rows letter extra) }
     ensures class { IfOk result (λ class. class_of letter ≡ Some class) }
 {
-    let Some(class) = class_of(letter) else {
-        return Err(Refusal::NoSuchLetter);
-    };
+    let class = class_of(letter).ok_or(Refusal::NoSuchLetter)?;
     if extra > 1_000_000 {
         return Err(Refusal::ExtraTooLarge);
     }
@@ -46,6 +45,32 @@ impl Network {
         }
         Ok(())
     }
+
+    // Adds the entry of a checked pair after the others, where there is room.
+    pub(crate) fn add_turn(
+        &mut self,
+        into: u32,
+        out: u32,
+        class: u8,
+        extra: u32,
+    ) -> Result<(), Refusal>
+        requires pair { first_refusal (pair_rows (plan self.old) into out) ≡ None }
+        requires apart { has_entry (plan self.old).turns into out ≡ false }
+        requires within { (class ≤ 4) × (extra ≤ 1000000) }
+        ensures answer { refusal_in result ≡ first_refusal (room_rows (plan self.old)) }
+        ensures after { plan self.new ≡ with_entry (plan self.old) into out class extra }
+    {
+        if self.turns.is_full() {
+            return Err(Refusal::TurnsFull);
+        }
+        self.turns.push(Turn {
+            into: into as u16,
+            out: out as u16,
+            class,
+            extra,
+        });
+        Ok(())
+    }
 }
 
 impl Draft {
@@ -60,7 +85,7 @@ impl Draft {
         ensures answer { refusal_in result ≡ link_refusal (drafted self.old) start end length }
         ensures after { drafted self.new ≡ with_link (drafted self.old) start end length tightness }
     {
-        if self.network.links.len() == 1024 {
+        if self.network.links.is_full() {
             return Err(Refusal::LinksFull);
         }
         if !is_node(start) || !is_node(end) {
@@ -72,14 +97,15 @@ impl Draft {
         if length > 1_000_000 {
             return Err(Refusal::TooLong);
         }
-        self.network.links.push(Link {
+        let link = Link {
             start: start as u16,
             end: end as u16,
             length,
             tightness,
-        });
+        };
+        self.network.links.push(link);
         let count = self.network.links.len() as u16;
-        self.network.starts.note(start as u16, count);
+        self.network.starts.note(link.start, count);
         Ok(())
     }
 
@@ -93,16 +119,7 @@ impl Draft {
             return Err(Refusal::PairTaken);
         }
         let class = check_letter(letter, extra)?;
-        if self.network.turns.len() == 2048 {
-            return Err(Refusal::TurnsFull);
-        }
-        self.network.turns.push(Turn {
-            into: into as u16,
-            out: out as u16,
-            class,
-            extra,
-        });
-        Ok(())
+        self.network.add_turn(into, out, class, extra)
     }
 
     // Lays what a record holds.

@@ -11,8 +11,6 @@ mod record;
 mod refusal;
 mod starthints;
 mod streets;
-mod table;
-mod tables;
 mod turn;
 mod turntable;
 mod turntables;

@@ -1,6 +1,6 @@
 // What is done with a set of links, told by the marks of the links.
 ghost use Rattle.std.specs.Prelude.{◌≡◌, true, false, ◌∷◌, replicate, slice_index_or};
-ghost use Rattle.network.specs.Marks.{both, marked, marks, marks_of};
+ghost use Rattle.network.specs.Marks.{bits, both, marked, marks, marks_of};
 ghost use Rattle.network.specs.Shared.{SharedIsCounted};
 
 use crate::linkset::LinkSet;
@@ -13,7 +13,7 @@ impl LinkSet {
         LinkSet { words: [0; 16] }
     }
 
-    // Whether the link is in the set. No set has link 0 or a link above 1024.
+    // Whether the link is in the set. No set has link 0 or a link above 1024: the numbers are tested here, so that callers need not.
     pub fn has(&self, link: usize) -> bool
         ensures { result ≡ slice_index_or (false ∷ marks self.now) link false }
     {
@@ -24,24 +24,33 @@ impl LinkSet {
         (self.words[place / 64] >> (place % 64)) & 1 == 1
     }
 
+    // Gives the link this mark, a value that is stored. 0 and a number above 1024 leave the set as it is.
+    pub fn set(&mut self, link: usize, mark: bool)
+        ensures { marks self.new ≡ marked (marks self.old) link mark }
+    {
+        if link >= 1 && link <= 1024 {
+            let place = link - 1;
+            let bit = 1 << (place % 64);
+            if mark {
+                self.words[place / 64] |= bit;
+            } else {
+                self.words[place / 64] &= !bit;
+            }
+        }
+    }
+
     // Puts the link into the set. 0 and a number above 1024 leave the set as it is.
     pub fn add(&mut self, link: usize)
         ensures { marks self.new ≡ marked (marks self.old) link true }
     {
-        if link >= 1 && link <= 1024 {
-            let place = link - 1;
-            self.words[place / 64] |= 1 << (place % 64);
-        }
+        self.set(link, true);
     }
 
     // Takes the link out of the set. 0 and a number above 1024 leave the set as it is.
     pub fn remove(&mut self, link: usize)
         ensures { marks self.new ≡ marked (marks self.old) link false }
     {
-        if link >= 1 && link <= 1024 {
-            let place = link - 1;
-            self.words[place / 64] &= !(1 << (place % 64));
-        }
+        self.set(link, false);
     }
 
     // The set of the links in the list. Zeros and numbers above 1024 are no links.
@@ -59,15 +68,22 @@ impl LinkSet {
     pub fn shared_count(a: &LinkSet, b: &LinkSet) -> u32
         ensures { result ≡ both (marks a.now) (marks b.now) }
     {
-        let mut count = 0;
-        for i in 0..16 {
-            count += (a.words[i] & b.words[i]).count_ones();
-        }
-        count
+        a.words
+            .iter()
+            .zip(&b.words)
+            .map(|(x, y)| shared_bits(*x, *y))
+            .sum()
     }
 
     // The sets of two lists tell how many links of the one stand in the other.
     pub fn shared_is_counted()
         ensures { SharedIsCounted }
     {}
+}
+
+// How many bits two words share.
+fn shared_bits(x: u64, y: u64) -> u32
+    ensures { result ≡ both (bits 64 x) (bits 64 y) }
+{
+    (x & y).count_ones()
 }

@@ -1,6 +1,6 @@
 // A record: one link or one turn entry that is to be laid.
 
-#[derive(Clone, Copy)]
+#[derive(Clone, Copy, PartialEq, Eq, Debug)]
 pub enum Record {
     Link {
         start: u32,

@@ -1,29 +1,31 @@
 // Why a call is refused.
-ghost use Rattle.std.specs.Prelude.{◌≡◌};
+ghost use Rattle.std.specs.Prelude.{◌≡◌, Some, decimal};
 ghost use Rattle.network.specs.Refusals.{number};
+
+use std::fmt;
 
 #[derive(Clone, Copy, PartialEq, Eq, Debug)]
 pub enum Refusal {
-    LinksFull,
-    NodeOutside,
-    StartsFall,
-    TooLong,
-    TurnsFull,
-    NoSuchLink,
-    LinksApart,
-    PairTaken,
-    NoSuchLetter,
-    ExtraTooLarge,
-    QuestionOpen,
-    NoQuestion,
-    LentTooShort,
-    BookFull,
-    BookSpoilt,
-    NoFurtherRoute,
-    ContentsWrong,
-    RecordNotLaid,
-    BufferTooShort,
-    NotACommand,
+    LinksFull = 1,
+    NodeOutside = 2,
+    StartsFall = 3,
+    TooLong = 4,
+    TurnsFull = 5,
+    NoSuchLink = 6,
+    LinksApart = 7,
+    PairTaken = 8,
+    NoSuchLetter = 9,
+    ExtraTooLarge = 10,
+    QuestionOpen = 11,
+    NoQuestion = 12,
+    LentTooShort = 13,
+    BookFull = 14,
+    BookSpoilt = 15,
+    NoFurtherRoute = 16,
+    ContentsWrong = 17,
+    RecordNotLaid = 18,
+    BufferTooShort = 19,
+    NotACommand = 20,
 }
 
 impl Refusal {
@@ -31,27 +33,14 @@ impl Refusal {
     pub fn number(self) -> u8
         ensures { result ≡ number self }
     {
-        match self {
-            Refusal::LinksFull => 1,
-            Refusal::NodeOutside => 2,
-            Refusal::StartsFall => 3,
-            Refusal::TooLong => 4,
-            Refusal::TurnsFull => 5,
-            Refusal::NoSuchLink => 6,
-            Refusal::LinksApart => 7,
-            Refusal::PairTaken => 8,
-            Refusal::NoSuchLetter => 9,
-            Refusal::ExtraTooLarge => 10,
-            Refusal::QuestionOpen => 11,
-            Refusal::NoQuestion => 12,
-            Refusal::LentTooShort => 13,
-            Refusal::BookFull => 14,
-            Refusal::BookSpoilt => 15,
-            Refusal::NoFurtherRoute => 16,
-            Refusal::ContentsWrong => 17,
-            Refusal::RecordNotLaid => 18,
-            Refusal::BufferTooShort => 19,
-            Refusal::NotACommand => 20,
-        }
+        self as u8
+    }
+}
+
+impl fmt::Display for Refusal {
+    ghost output = { λ refusal. Some (decimal (number refusal)) };
+
+    fn fmt<W: fmt::Write>(&self, f: &mut fmt::Formatter<W>) -> fmt::Result {
+        write!(f, "{}", self.number())
     }
 }

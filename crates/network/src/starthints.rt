@@ -22,19 +22,15 @@ impl StartHints {
         requires { start ≤ 512 }
         ensures { (n : ℕ) → n < 514 → slice_index self.new.below n ≡ (if nat_lt start n then count else slice_index self.old.below n) }
     {
-        for node in start as usize + 1..514 {
-            self.below[node] = count;
-        }
+        self.below[usize::from(start) + 1..].fill(count);
     }
 
     // How many links are thought to start below a node.
     pub(crate) fn below(&self, node: u32) -> usize
         ensures { result ≡ slice_index self.now.below node }
     {
-        if node < 514 {
-            self.below[node as usize] as usize
-        } else {
-            0
-        }
+        self.below
+            .get(node as usize)
+            .map_or(0, |count| usize::from(*count))
     }
 }

@@ -7,7 +7,7 @@ ghost use Rattle.network.specs.Plan.{Laid, laid, link, no_link, last_start, has_
 
 use crate::link::Link;
 use crate::network::Network;
-use crate::turn::Turn;
+use crate::turn::{STRAIGHT_ON, Turn};
 
 impl Network {
     // The links in the order of their numbers.
@@ -36,24 +36,21 @@ impl Network {
         requires { Laid (plan self.now).links number }
         ensures { result ≡ link (plan self.now).links number }
     {
-        self.links.get(number as usize - 1)
+        self.links[number as usize - 1]
     }
 
     // The start of the link that was laid last, or 0 before the first.
     pub(crate) fn last_start(&self) -> u16
         ensures { result ≡ last_start (plan self.now).links }
     {
-        let count = self.links.len();
-        if count == 0 {
-            return 0;
-        }
-        self.links.get(count - 1).start
+        self.links().last().map_or(0, |link| link.start)
     }
 
     // A place of the pair's entry, counted from 0.
     pub(crate) fn place_of(&self, into: u32, out: u32) -> Option<usize>
         ensures { EntryPlace (plan self.now).turns into out result }
     {
+        // Two tests, and not u16::try_from, since the index of entries ends with the last link.
         if into > 1024 || out > 1024 {
             return None;
         }
@@ -71,12 +68,13 @@ impl Network {
     pub fn turn_of(&self, into: u16, out: u16) -> Turn
         ensures { result ≡ turn (plan self.now).turns into out }
     {
+        // A match: two closures are no plainer, and the turn of a pair without an entry is made only where it has none.
         match self.place_of(u32::from(into), u32::from(out)) {
-            Some(place) => self.turns.get(place),
+            Some(place) => self.turns()[place],
             None => Turn {
                 into,
                 out,
-                class: 0,
+                class: STRAIGHT_ON,
                 extra: 0,
             },
         }
@@ -86,54 +84,24 @@ impl Network {
     pub fn links_below(&self, node: u32) -> usize
         ensures { LinksBelow (plan self.now).links node result }
     {
-        let links = self.links.as_slice();
+        let links = self.links();
         let count = self.starts.below(node);
-        if count <= links.len()
-            && ends_below(links, count, node)
-            && goes_on_at(links, count, node)
-        {
+        if count <= links.len() && divides(links, count, node) {
             return count;
         }
-        self.halve_to(node)
-    }
-
-    // How many links start below a node, found by halving: the starts never fall.
-    fn halve_to(&self, node: u32) -> usize
-        ensures { LinksBelow (plan self.now).links node result }
-    {
-        let links = self.links.as_slice();
-        let mut low = 0;
-        let mut high = links.len();
-        while low < high {
-            let middle = low + (high - low) / 2;
-            if u32::from(links[middle].start) < node {
-                low = middle + 1;
-            } else {
-                high = middle;
-            }
-        }
-        low
+        links.partition_point(|link| u32::from(link.start) < node)
     }
 }
 
-// Whether the last of the first links starts below a node, where there are any.
-fn ends_below(links: &[Link], count: usize, node: u32) -> bool
+// Whether the last of the first links starts below a node, and the link after them at it or above it, where there are such.
+fn divides(links: &[Link], count: usize, node: u32) -> bool
     requires { count ≤ length links.now }
-    ensures { result ≡ true → 0 < count → (slice_index_or links.now (count - 1) no_link).start < node }
+    ensures below { result ≡ true → 0 < count → (slice_index_or links.now (count - 1) no_link).start < node }
+    ensures others { result ≡ true → count < length links.now → node ≤ (slice_index_or links.now count no_link).start }
 {
-    if count == 0 {
-        return true;
-    }
-    u32::from(links[count - 1].start) < node
-}
-
-// Whether the link after the first ones starts at a node or above it, where there is one.
-fn goes_on_at(links: &[Link], count: usize, node: u32) -> bool
-    requires { count ≤ length links.now }
-    ensures { result ≡ true → count < length links.now → node ≤ (slice_index_or links.now count no_link).start }
-{
-    if count == links.len() {
-        return true;
-    }
-    node <= u32::from(links[count].start)
+    let (below, others) = links.split_at(count);
+    below.last().is_none_or(|link| u32::from(link.start) < node)
+        && others
+            .first()
+            .is_none_or(|link| node <= u32::from(link.start))
 }

@@ -1,9 +1,20 @@
 // A turn entry: what it costs to go on from one link into another, or that it is barred.
-ghost use Rattle.std.specs.Prelude.{◌≡◌};
+ghost use Rattle.std.specs.Prelude.{◌≡◌, ◌==◌};
 ghost use Rattle.network.specs.Letters.{class_of, letter_of};
+ghost use Rattle.network.specs.Roads.{barred};
 
-// The class of the turn is 0 straight on, 1 left, 2 right, 3 turning back, 4 barred.
-#[derive(Clone, Copy)]
+// The classes of turns. It is a rule of this project that an entry keeps its class as one of these numbers.
+pub(crate) const STRAIGHT_ON: u8 = 0;
+
+const LEFT: u8 = 1;
+
+const RIGHT: u8 = 2;
+
+const BACK: u8 = 3;
+
+const BARRED: u8 = 4;
+
+#[derive(Clone, Copy, PartialEq, Eq, Debug, Default)]
 pub struct Turn {
     pub into: u16,
     pub out: u16,
@@ -17,12 +28,19 @@ impl Turn {
         ensures { result ≡ letter_of self.class }
     {
         match self.class {
-            0 => b'S',
-            1 => b'L',
-            2 => b'R',
-            3 => b'U',
+            STRAIGHT_ON => b'S',
+            LEFT => b'L',
+            RIGHT => b'R',
+            BACK => b'U',
             _ => b'X',
         }
+    }
+
+    // Whether the turn is barred.
+    pub fn is_barred(self) -> bool
+        ensures { result ≡ (self.class == barred) }
+    {
+        self.class == BARRED
     }
 
     // Gives the entry another class and extra.
@@ -32,26 +50,18 @@ impl Turn {
         self.class = class;
         self.extra = extra;
     }
-
-    // What fills a place that holds no turn entry.
-    pub(crate) const NONE: Turn = Turn {
-        into: 0,
-        out: 0,
-        class: 0,
-        extra: 0,
-    };
 }
 
-// The class that a letter stands for, if it is one of the five.
+// The class that a letter stands for, if it is one of the five: a rule of this project has it matched against the five literals here.
 pub(crate) fn class_of(letter: char) -> Option<u8>
     ensures { result ≡ class_of letter }
 {
     match letter {
-        'S' => Some(0),
-        'L' => Some(1),
-        'R' => Some(2),
-        'U' => Some(3),
-        'X' => Some(4),
+        'S' => Some(STRAIGHT_ON),
+        'L' => Some(LEFT),
+        'R' => Some(RIGHT),
+        'U' => Some(BACK),
+        'X' => Some(BARRED),
         _ => None,
     }
 }

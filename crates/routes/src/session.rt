@@ -36,10 +36,7 @@ impl Session {
 
     // Makes the call that a line says, and gives its reply.
     pub(crate) fn reply(&mut self, line: &[u8]) -> Reply<u32> {
-        match self.call(line) {
-            Ok(reply) => reply,
-            Err(refusal) => Reply::Refused(refusal),
-        }
+        self.call(line).unwrap_or_else(Reply::Refused)
     }
 
     fn call(&mut self, line: &[u8]) -> Result<Reply<u32>, Refusal> {
@@ -50,8 +47,8 @@ impl Session {
             }
             Command::Next => return self.next_route(),
             Command::Trial { link } => {
-                let cost = self.map.trial(link, self.table.as_mut_slice())?;
-                return Ok(Reply::Cost(cost));
+                let cost = self.map.trial(link, self.table.as_mut_slice());
+                return cost.map(Reply::Cost);
             }
             Command::End => self.map.end()?,
             Command::Close { link } => self.map.close(link)?,
@@ -82,19 +79,12 @@ impl Session {
     // The links of the route that was handed out last: what its places in the book hold before the zeros.
     pub(crate) fn links(&self) -> &[u16] {
         let before = self.routes.saturating_sub(1);
-        match self.book.as_slice().chunks(PLACES).nth(before) {
-            Some(places) => before_zeros(places),
-            None => &[],
-        }
+        let places = self
+            .book
+            .as_slice()
+            .chunks(PLACES)
+            .nth(before)
+            .unwrap_or(&[]);
+        places.split(|link| *link == 0).next().unwrap_or(places)
     }
-}
-
-// What stands in places before the first zero.
-fn before_zeros(places: &[u16]) -> &[u16] {
-    for (i, link) in places.iter().enumerate() {
-        if *link == 0 {
-            return &places[..i];
-        }
-    }
-    places
 }

@@ -31,8 +31,8 @@ pub(crate) fn talk_about(rt: &HostRuntime, mut session: Session) -> io::Result<(
 fn write_answer<W: Write>(output: &mut W, session: &mut Session, line: &[u8]) -> io::Result<()> {
     let reply = session.reply(line.strip_suffix(b"\n").unwrap_or(line));
     let mut text = [0; LONGEST];
-    match write_reply(&Metres, reply, session.links(), &mut text) {
-        Ok(size) => output.write_all(&text[..size]),
-        Err(_) => Ok(()),
-    }
+    write_reply(&Metres, reply, session.links(), &mut text).map_or(
+        Ok(()),
+        |size| output.write_all(&text[..size]),
+    )
 }

@@ -1,9 +1,9 @@
 -- The test of a route decides the definition. Assumes nothing.
 use Rattle.std.proofs.Common.{◌≡◌, ℕ, zero, suc, ◌+◌, ◌-◌, ◌≤◌, Bool, true, false, cond, not, ◌&&◌, eqb, List, [], ◌∷◌, ◌++◌, length, take, drop, replicate, sym, refl, ap, ◌∙◌, subst, ap₂, ⊎_elim, arith, length-drop}
-use mathlib.Core.Bool.{beq}
-use lib.ListN.{length-replicate}
-use Rattle.std.specs.List.{ContainsAt as Has, prefix_len, AllByRecursion}
+use Rattle.std.specs.List.{ContainsAt as Has, list_all, position_or_len, before_first, AllByRecursion}
 use Rattle.std.proofs.ByRecursion.{All-weaker, all-has, has_push, has_append_left, has_push_cases}
+use Rattle.std.specs.Bool.{then_some}
+use Rattle.std.proofs.lemmas.List.Sums.{prefix_len-le-length}
 use Rattle.std.proofs.lemmas.List.{take_at, drop_at, take-append-drop, length-take-le}
 use Rattle.std.proofs.lemmas.Bool.{and_parts, and_from, not-true, not_from_false, eqb-true, eq-eqb, ne_eqb, false≢true, cases_Bool, both_ways}
 use Rattle.network.specs.Plan.{link}
@@ -11,8 +11,8 @@ use Rattle.network.specs.Roads.{Roads, Passable}
 use Rattle.network.specs.Shared.{Once, stands_in}
 use Rattle.routing.specs.Enumeration.{passable, joins, starts_at}
 use Rattle.routing.specs.Route.{Joined, last_of, Simple}
-use Rattle.routing.specs.Lent.{steps_test, route_test, zero_so}
-use Rattle.routing.specs.Places.{Holds}
+use Rattle.routing.specs.Lent.{steps_test, route_test}
+use Rattle.routing.specs.Places.{Holds, ReadsRoute}
 use Rattle.routing.proofs.Members.{all_from_has, has_first, has_none}
 use Rattle.routing.proofs.Conditions.{passable_true, passable_is, joins_true, joins_is, stands_in_true, stands_in_is}
 
@@ -84,43 +84,43 @@ module _ (roads : Roads) (to : ℕ) where
       (and_from (starts_at roads from a) (steps_test roads to a (a ∷ []) bs) (eq-eqb _ _ s.0) (goes_on_passes bs a (a ∷ []) g))
 
 -- zeros to the end, and links before the first zero
-pub zeros_lead : (n : ℕ) → prefix_len (zero_so true) (replicate n 0) ≡ n
-zeros_lead zero = refl
-zeros_lead (suc n) = let e = zeros_lead n in omega arith
+abbrev pub is_zero : ℕ → Bool
+is_zero place = eqb place 0
 
-zero_first : (p : ℕ) (ps : List ℕ) → (prefix_len (zero_so true) ps ≡ length ps → ps ≡ replicate (length ps) 0) → (b : Bool) → eqb p 0 ≡ b
-    → cond (beq b true) (1 + prefix_len (zero_so true) ps) 0 ≡ suc (length ps) → p ∷ ps ≡ 0 ∷ replicate (length ps) 0
-zero_first p ps rest true t h = ap₂ (λ (x : ℕ) (xs : List ℕ). x ∷ xs) (eqb-true p 0 t) (rest (omega arith))
-zero_first p ps rest false t h = absurd (omega arith)
+pub zeros_pass : (n : ℕ) → list_all is_zero (replicate n 0) ≡ true
+zeros_pass zero = refl
+zeros_pass (suc n) = zeros_pass n
 
-pub all_zeros : (ps : List ℕ) → prefix_len (zero_so true) ps ≡ length ps → ps ≡ replicate (length ps) 0
-all_zeros [] e = refl
-all_zeros (p ∷ ps) e = zero_first p ps (all_zeros ps) (eqb p 0) refl e
+pub all_zeros : (ps : List ℕ) → list_all is_zero ps ≡ true → ps ≡ replicate (length ps) 0
+all_zeros [] t = refl
+all_zeros (p ∷ ps) t =
+    let h = and_parts (is_zero p) (list_all is_zero ps) t in
+    ap₂ (λ (x : ℕ) (xs : List ℕ). x ∷ xs) (eqb-true p 0 h.0) (all_zeros ps h.1)
 
-pub links_lead : (r : List ℕ) (n : ℕ) → AllByRecursion (λ a. 1 ≤ a) r → prefix_len (zero_so false) (r ++ replicate n 0) ≡ length r
+pub links_lead : (r : List ℕ) (n : ℕ) → AllByRecursion (λ a. 1 ≤ a) r → position_or_len is_zero (r ++ replicate n 0) ≡ length r
 links_lead [] zero all = refl
 links_lead [] (suc n) all = refl
 links_lead (a ∷ r) n all =
     let some : eqb a 0 ≡ false = ne_eqb a 0 (λ e. let low = all.0 in omega arith) in
-    ap (λ (b : Bool). cond (beq b false) (1 + prefix_len (zero_so false) (r ++ replicate n 0)) 0) some
-    ∙ (let e = links_lead r n all.1 in let f : 1 + prefix_len (zero_so false) (r ++ replicate n 0) ≡ suc (length r) = omega arith in f)
+    ap (λ (b : Bool). cond (not b) (1 + position_or_len is_zero (r ++ replicate n 0)) 0) some
+    ∙ (let e = links_lead r n all.1 in let f : 1 + position_or_len is_zero (r ++ replicate n 0) ≡ suc (length r) = omega arith in f)
 
 -- places that hold a simple route hold it up to the first zero
 pub held : (roads : Roads) (from to : ℕ) (places r : List ℕ) → Simple roads from to r → Holds places r
-    → (prefix_len (zero_so false) places ≡ length r) × (take (prefix_len (zero_so false) places) places ≡ r)
-    × (prefix_len (zero_so true) (drop (prefix_len (zero_so false) places) places) ≡ length (drop (prefix_len (zero_so false) places) places))
+    → (position_or_len is_zero places ≡ length r) × (before_first is_zero places ≡ r)
+    × (list_all is_zero (drop (position_or_len is_zero places) places) ≡ true)
 held roads from to places [] s h = absurd s
 held roads from to places (a ∷ bs) s h =
     let r = a ∷ bs in
     let n = length places - length r in
     let zeros = replicate n 0 in
     let low : AllByRecursion (λ b. 1 ≤ b) r = All-weaker (Passable roads) (λ b. 1 ≤ b) (λ b p. p.0.0) r s.3 in
-    let count : prefix_len (zero_so false) places ≡ length r = ap (prefix_len (zero_so false)) h ∙ links_lead r n low in
-    let behind : drop (prefix_len (zero_so false) places) places ≡ zeros =
+    let count : position_or_len is_zero places ≡ length r = ap (position_or_len is_zero) h ∙ links_lead r n low in
+    let behind : drop (position_or_len is_zero places) places ≡ zeros =
     ap₂ (λ (k : ℕ) (ps : List ℕ). drop k ps) count h ∙ drop_at r zeros (length r) refl in (
       count,
       ap₂ (λ (k : ℕ) (ps : List ℕ). take k ps) count h ∙ take_at r zeros (length r) refl,
-      ap (prefix_len (zero_so true)) behind ∙ zeros_lead n ∙ sym (length-replicate n 0) ∙ ap length (sym behind),
+      ap (list_all is_zero) behind ∙ zeros_pass n,
     )
 
 -- links and then only zeros
@@ -129,3 +129,17 @@ holds_front places n within zeros =
     let size : length (drop n places) ≡ length places - length (take n places) =
     length-drop n places ∙ ap (λ (k : ℕ). length places - k) (sym (length-take-le n places within)) in
     sym (take-append-drop n places) ∙ ap (λ (x : List ℕ). take n places ++ x) (zeros ∙ ap (λ (k : ℕ). replicate k 0) size)
+
+-- what is read of places, from their first zero on
+pub reads : (roads : Roads) (from to : ℕ) (places : List ℕ) (b : Bool)
+    → b ≡ (list_all is_zero (drop (position_or_len is_zero places) places) && route_test roads from to (before_first is_zero places))
+    → ReadsRoute roads from to places (then_some b (position_or_len is_zero places))
+reads roads from to places true e =
+    let n = position_or_len is_zero places in
+    let h = and_parts (list_all is_zero (drop n places)) (route_test roads from to (take n places)) (sym e) in
+    (test_simple roads to from (take n places) h.1, holds_front places n (prefix_len-le-length (λ p. not (is_zero p)) places) (all_zeros (drop n places) h.0))
+reads roads from to places false e = λ r simple holds.
+    let h = held roads from to places r simple holds in
+    both_ways _ (sym e)
+    (and_from (list_all is_zero (drop (position_or_len is_zero places) places)) (route_test roads from to (before_first is_zero places)) h.2
+    (ap (route_test roads from to) h.1 ∙ simple_passes roads to from r simple))

@@ -1,82 +1,96 @@
 -- The test of a route, link by link. Assumes nothing.
-use Rattle.std.proofs.Common.{◌≡◌, ℕ, ◌+◌, ◌-◌, ◌<◌, ◌≤◌, Bool, true, false, not, ◌&&◌, eqb, List, [], ◌∷◌, length, get_or, take, drop, sym, refl, ap, ◌∙◌, ap₂, arith}
-use Rattle.std.proofs.lemmas.List.{drop_more, take_more, drop_all}
-use Rattle.std.proofs.lemmas.Bool.{and_left, and_right, not_from_true, eq-eqb}
-use Rattle.network.specs.Marks.{marks_of}
-use Rattle.network.proofs.Marked.{marks_of_has}
-use Rattle.network.specs.Plan.{link}
+--     Walked roads to first rest i before ms   the first i links of the rest passed, before them the first: the last of these is
+--                                              `before`, the marks are theirs, and the other links decide
+use Rattle.std.proofs.Common.{◌≡◌, ℕ, suc, ◌+◌, ◌-◌, ◌<◌, ◌≤◌, Bool, true, false, not, ◌&&◌, eqb, List, [], ◌∷◌, length, get_or, take, drop, replicate, sym, refl, ap, ◌∙◌, subst, ⊎_elim, arith}
+use Rattle.std.proofs.lemmas.List.{drop_more, take_more, drop_all, take_all}
+use Rattle.std.proofs.lemmas.Bool.{and_parts, and_left, cases_Bool, not-true, eq-eqb}
+use Rattle.network.specs.Marks.{marked, marks_of}
+use Rattle.network.proofs.Marked.{marks_of_has, marks_of_more}
+use Rattle.network.specs.Plan.{Laid, link}
 use Rattle.network.specs.Roads.{Roads}
 use Rattle.network.specs.Shared.{stands_in}
 use Rattle.routing.specs.Enumeration.{passable, joins, starts_at}
 use Rattle.routing.specs.Lent.{steps_test, route_test}
+use Rattle.routing.proofs.Conditions.{passable_true}
 
-module _ (roads : Roads) (to : ℕ) (links : List ℕ) where
-  -- one link more
-  pub step_more : (i : ℕ) → 1 ≤ i → i < length links
-      → steps_test roads to (get_or links (i - 1) 0) (take i links) (drop i links)
-      ≡ (passable roads (get_or links i 0) && (not (stands_in (get_or links i 0) (take i links))
-      && (joins roads (get_or links (i - 1) 0) (get_or links i 0)
-      && steps_test roads to (get_or links (i + 1 - 1) 0) (take (i + 1) links) (drop (i + 1) links))))
-  unfolding steps_test
-  step_more i low h =
-      let b = get_or links i 0 in
-      let same : i + 1 - 1 ≡ i = omega arith in
-      ap (λ (bs : List ℕ). steps_test roads to (get_or links (i - 1) 0) (take i links) bs) (drop_more links i 0 h)
-      ∙ ap₂ (λ (seen : List ℕ) (k : ℕ). passable roads b && (not (stands_in b (take i links))
-      && (joins roads (get_or links (i - 1) 0) b && steps_test roads to (get_or links k 0) seen (drop (i + 1) links)))) (sym (take_more links i 0 h)) (sym same)
+pub record Walked (roads : Roads) (to first : ℕ) (rest : List ℕ) (i before : ℕ) (ms : List Bool) : Type 0 where
+  pub laid : Laid roads.plan.links before
+  pub seen : ms ≡ marks_of (first ∷ take i rest)
+  pub same : steps_test roads to before (first ∷ take i rest) (drop i rest) ≡ steps_test roads to first (first ∷ []) rest
 
-  pub steps_end : (i : ℕ) → i ≡ length links
-      → steps_test roads to (get_or links (i - 1) 0) (take i links) (drop i links) ≡ eqb (link roads.plan.links (get_or links (i - 1) 0)).end to
-  unfolding steps_test
-  steps_end i e = ap (λ (bs : List ℕ). steps_test roads to (get_or links (i - 1) 0) (take i links) bs) (drop_all i links (omega arith))
+abbrev from_first : Roads → (to first : ℕ) → List ℕ → Bool
+from_first roads to first rest = steps_test roads to first (first ∷ []) rest
 
-pub route_first : (roads : Roads) (from to : ℕ) (links : List ℕ) → 0 < length links
-    → route_test roads from to links
-    ≡ (passable roads (get_or links 0 0) && (starts_at roads from (get_or links 0 0) && steps_test roads to (get_or links 0 0) (take 1 links) (drop 1 links)))
-route_first roads from to [] h = absurd (omega arith)
-route_first roads from to (a ∷ bs) h = refl
+pub walk_starts : (roads : Roads) (to first : ℕ) (rest : List ℕ) (ms : List Bool) → Laid roads.plan.links first
+    → ms ≡ marked (replicate 1024 false) first true → Walked roads to first rest 0 first ms
+unfolding marks_of
+walk_starts roads to first rest ms laid e = record { laid = laid; seen = e; same = refl }
 
--- what one link's conditions make of the test
-module _ (roads : Roads) (to : ℕ) (links : List ℕ) (i : ℕ) (low : 1 ≤ i) (inside : i < length links) where
+stopped : (a n j t : Bool) → (a && (not n && j)) ≡ false → (a && (not n && (j && t))) ≡ false
+stopped false n j t f = refl
+stopped true true j t f = refl
+stopped true false j t f = and_left j t f
+
+-- one link more
+module _ (roads : Roads) (to first : ℕ) (rest : List ℕ) (i before : ℕ) (ms : List Bool)
+    (walked : Walked roads to first rest i before ms) (inside : i < length rest) where
   abbrev here : ℕ
-  here = get_or links i 0
+  here = get_or rest i 0
 
-  abbrev onward : Bool
-  onward = steps_test roads to (get_or links (i + 1 - 1) 0) (take (i + 1) links) (drop (i + 1) links)
+  abbrev fits : Bool
+  fits = passable roads here && (not (get_or (false ∷ ms) here false) && joins roads before here)
 
-  abbrev so_far : Bool
-  so_far = steps_test roads to (get_or links (i - 1) 0) (take i links) (drop i links)
+  opened : steps_test roads to before (first ∷ take i rest) (drop i rest)
+      ≡ (passable roads here && (not (stands_in here (first ∷ take i rest))
+      && (joins roads before here && steps_test roads to here (first ∷ take (i + 1) rest) (drop (i + 1) rest))))
+  unfolding steps_test
+  opened =
+      ap (λ (bs : List ℕ). steps_test roads to before (first ∷ take i rest) bs) (drop_more rest i 0 inside)
+      ∙ ap (λ (seen : List ℕ). passable roads here && (not (stands_in here (first ∷ take i rest))
+      && (joins roads before here && steps_test roads to here (first ∷ seen) (drop (i + 1) rest)))) (sym (take_more rest i 0 inside))
 
-  pub step_passes : passable roads here ≡ true → stands_in here (take i links) ≡ false → joins roads (get_or links (i - 1) 0) here ≡ true
-      → onward ≡ so_far
-  step_passes p s j = sym (step_more roads to links i low inside ∙ rw (p, s, j) refl)
+  seen_here : Laid roads.plan.links here → length roads.plan.links ≤ 1024
+      → get_or (false ∷ ms) here false ≡ stands_in here (first ∷ take i rest)
+  seen_here laid few =
+      ap (λ (x : List Bool). get_or (false ∷ x) here false) walked.seen
+      ∙ marks_of_has (first ∷ take i rest) here laid.0 (omega (arith, laid.1))
 
-  pub not_passable : passable roads here ≡ false → so_far ≡ false
-  not_passable p =
-      step_more roads to links i low inside
-      ∙ and_left (passable roads here) (not (stands_in here (take i links)) && (joins roads (get_or links (i - 1) 0) here && onward)) p
+  pub walk_goes_on : length roads.plan.links ≤ 1024 → fits ≡ true → Walked roads to first rest (i + 1) here (marked ms here true)
+  unfolding marks_of
+  walk_goes_on few t =
+      let p = and_parts (passable roads here) (not (get_or (false ∷ ms) here false) && joins roads before here) t in
+      let q = and_parts (not (get_or (false ∷ ms) here false)) (joins roads before here) p.1 in
+      let laid = (passable_true roads here p.0).0 in
+      let new : stands_in here (first ∷ take i rest) ≡ false = sym (seen_here laid few) ∙ not-true _ q.0 in
+      record {
+        laid = laid;
+        seen = ap (λ (x : List Bool). marked x here true) walked.seen ∙ sym (marks_of_more (first ∷ rest) (suc i) (omega arith))
+            ∙ ap (λ (k : ℕ). marks_of (take k (first ∷ rest))) (let e : suc i + 1 ≡ suc (i + 1) = omega arith in e);
+        same = sym (opened ∙ rw (p.0, new, q.1) refl) ∙ walked.same;
+      }
 
-  pub seen_before : stands_in here (take i links) ≡ true → so_far ≡ false
-  seen_before s =
-      step_more roads to links i low inside
-      ∙ and_right (passable roads here) (not (stands_in here (take i links)) && (joins roads (get_or links (i - 1) 0) here && onward))
-      (and_left (not (stands_in here (take i links))) (joins roads (get_or links (i - 1) 0) here && onward) (not_from_true _ s))
+  pub walk_stops : length roads.plan.links ≤ 1024 → fits ≡ false → from_first roads to first rest ≡ false
+  walk_stops few f =
+      let p = passable roads here in
+      let j = joins roads before here in
+      sym walked.same
+      ∙ opened
+      ∙ ⊎_elim (λ (t : p ≡ true). stopped p (stands_in here (first ∷ take i rest)) j _
+      (subst (λ (b : Bool). (p && (not b && j)) ≡ false) (seen_here (passable_true roads here t).0 few) f))
+      (λ (t : p ≡ false). and_left p _ t) (cases_Bool p)
 
-  pub not_joined : joins roads (get_or links (i - 1) 0) here ≡ false → so_far ≡ false
-  not_joined j =
-      step_more roads to links i low inside
-      ∙ and_right (passable roads here) (not (stands_in here (take i links)) && (joins roads (get_or links (i - 1) 0) here && onward))
-      (and_right (not (stands_in here (take i links))) (joins roads (get_or links (i - 1) 0) here && onward)
-      (and_left (joins roads (get_or links (i - 1) 0) here) onward j))
+pub walk_ends : (roads : Roads) (to first : ℕ) (rest : List ℕ) (i before : ℕ) (ms : List Bool)
+    → Walked roads to first rest i before ms → length rest ≤ i → from_first roads to first rest ≡ eqb (link roads.plan.links before).end to
+unfolding steps_test
+walk_ends roads to first rest i before ms w past =
+    sym w.same ∙ ap (λ (bs : List ℕ). steps_test roads to before (first ∷ take i rest) bs) (drop_all i rest past)
 
 -- the first link passes: the others decide
-pub route_by_steps : (roads : Roads) (from to : ℕ) (links : List ℕ) (b : Bool) → 0 < length links
-    → passable roads (get_or links 0 0) ≡ true → (link roads.plan.links (get_or links 0 0)).start ≡ from
-    → steps_test roads to (get_or links 0 0) (take 1 links) (drop 1 links) ≡ b → b ≡ route_test roads from to links
-route_by_steps roads from to links b some p start e =
-    let s : starts_at roads from (get_or links 0 0) ≡ true = eq-eqb _ _ start in
-    sym (route_first roads from to links some ∙ rw (p, s, e) refl)
-
--- the set of the links so far has a link where it stands among them
-pub seen_is : (ms : List Bool) (ns : List ℕ) (n : ℕ) → ms ≡ marks_of ns → 1 ≤ n → n ≤ 1024 → get_or (false ∷ ms) n false ≡ stands_in n ns
-seen_is ms ns n e low high = ap (λ (x : List Bool). get_or (false ∷ x) n false) e ∙ marks_of_has ns n low high
+pub decided : (roads : Roads) (from to : ℕ) (links : List ℕ) (b : Bool) → 1 ≤ length links → passable roads (get_or links 0 0) ≡ true
+    → (link roads.plan.links (get_or links 0 0)).start ≡ from
+    → from_first roads to (get_or links 0 0) (take (length links - 1) (drop 1 links)) ≡ b → b ≡ route_test roads from to links
+decided roads from to [] b some p start e = absurd (omega arith)
+decided roads from to (a ∷ bs) b some p start e =
+    let s : starts_at roads from a ≡ true = eq-eqb _ _ start in
+    let rest = take_all (length (a ∷ bs) - 1) bs (omega arith) in
+    sym e ∙ ap (from_first roads to a) rest ∙ sym (rw (p, s) refl)

@@ -1,12 +1,14 @@
 -- A question's book: 1,024 places for each listed route, its links and then zeros.
 --     place book i                         the 1,024 places of the route listed as number i, counted from 0
+--     route book i                         the links in those places, up to the first zero
 --     Legible roads from to book n         each of the n listed places holds a simple route of the question
 --     Unlisted roads from to book n r      r is a simple route of the question that none of the n listed places holds
 --     Cheapest m plan P r                  of the routes that P picks, r costs the least
 --     Finds rank m roads P line answer     the answer tells a cheapest of the routes that P picks, which the line holds, or that
 --                                          P picks none
 --     Cleared rank m before after          a table that was worked in: 2,048 costs at the start's rank, and the rest as it was
-use Rattle.std.specs.Prelude.{◌≡◌, ℕ, ◌*◌, ◌<◌, ◌≤◌, List, map, length, take, drop, replicate, Option, MatchOption}
+use Rattle.std.specs.Prelude.{◌≡◌, ℕ, ◌*◌, ◌<◌, ◌≤◌, List, map, length, take, drop, replicate, Option, MatchOption, ◌==◌}
+use Rattle.std.specs.List.{before_first}
 use Rattle.network.specs.Plan.{Plan}
 use Rattle.network.specs.Roads.{Roads}
 use Rattle.measure.specs.Ranks.{Ranks}
@@ -17,6 +19,9 @@ use Rattle.routing.specs.declared.found.Found.{Found}
 
 abbrev pub place : List ℕ → ℕ → List ℕ
 place book i = take 1024 (drop (1024 * i) book)
+
+unfoldable pub route : List ℕ → ℕ → List ℕ
+route book i = before_first (λ place. place == 0) (place book i)
 
 abbrev pub Legible : Roads → (from to : ℕ) → List ℕ → ℕ → Type 0
 Legible roads from to book n =

@@ -3,7 +3,6 @@
 --     steps_test roads to a seen bs     after link a, and other links seen before it, the links bs go on as a route to the node does
 --     route_test roads from to links    the links are a simple route between the two nodes
 use Rattle.std.specs.Prelude.{ℕ, Bool, false, not, ◌&&◌, List, [], ◌∷◌, ◌++◌, ◌==◌}
-use Rattle.std.specs.Bool.{beq}
 use Rattle.network.specs.Plan.{link}
 use Rattle.network.specs.Laid.{plan}
 use Rattle.network.specs.Marks.{marks}
@@ -23,7 +22,3 @@ steps_test roads to a seen (b ∷ bs) =
 abbrev pub route_test : Roads → (from to : ℕ) → List ℕ → Bool
 route_test roads from to [] = false
 route_test roads from to (a ∷ bs) = passable roads a && (starts_at roads from a && steps_test roads to a (a ∷ []) bs)
-
--- a place is 0, or, where `zeros` is false, is not
-abbrev pub zero_so : Bool → ℕ → Bool
-zero_so zeros place = beq (place == 0) zeros

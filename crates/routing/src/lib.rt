@@ -5,15 +5,14 @@ ghost use Rattle.routing.specs.Enumeration.{Exact};
 ghost use Rattle.routing.specs.Unstopped.{RoutesUnstopped};
 
 mod found;
-mod legible;
+mod listing;
 mod places;
 mod roads;
 mod steps;
 
 pub use found::Found;
-pub use legible::is_legible;
-pub use places::route_in;
-pub use roads::Roads;
+pub use listing::Listing;
+pub use roads::{Roads, Trip};
 
 // The enumeration of the simple routes has each of them, and no other list.
 pub fn enumeration_is_exact()

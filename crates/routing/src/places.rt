@@ -1,34 +1,32 @@
 // Places of a book, each route's links and then zeros.
-ghost use Rattle.std.specs.Prelude.{◌≡◌};
-ghost use Rattle.std.specs.List.{prefix_len};
-ghost use Rattle.routing.specs.Lent.{lent, zero_so};
+ghost use Rattle.std.specs.Prelude.{◌≡◌, ◌==◌};
+ghost use Rattle.std.specs.List.{list_all, position_or_len};
+ghost use Rattle.routing.specs.Lent.{lent};
 ghost use Rattle.routing.specs.Places.{ReadsRoute};
 
-use crate::roads::Roads;
-use crate::steps::is_route;
+use crate::roads::Trip;
 
-// How many places at the front hold zeros, or, where `zeros` is false, hold none.
-fn front(places: &[u16], zeros: bool) -> usize
-    ensures { result ≡ prefix_len (zero_so zeros) places.now }
+// How many places stand before the first zero.
+pub(crate) fn before_zeros(places: &[u16]) -> usize
+    ensures { result ≡ position_or_len (λ place. place == 0) places.now }
 {
-    for (i, place) in places.iter().enumerate() {
-        if (*place == 0) != zeros {
-            return i;
-        }
-    }
-    places.len()
+    places.iter().take_while(|place| **place != 0).count()
 }
 
-// How many links the simple route between two nodes has that the places hold before zeros; nothing where they hold
-// anything else.
-pub fn route_in(roads: Roads<'_>, from: u16, to: u16, places: &[u16]) -> Option<usize>
-    ensures { ReadsRoute (lent roads.entry) from to places.now result }
+// Whether places hold zeros, and nothing else.
+fn is_blank(places: &[u16]) -> bool
+    ensures { result ≡ list_all (λ place. place == 0) places.now }
 {
-    let count = front(places, false);
-    let (links, rest) = places.split_at(count);
-    if front(rest, true) == rest.len() && is_route(roads, from, to, links) {
-        Some(count)
-    } else {
-        None
+    places.iter().all(|place| *place == 0)
+}
+
+impl Trip<'_> {
+    // How many links the simple route of the trip has that the places hold before zeros; nothing where they hold anything else.
+    pub fn route_in(self, places: &[u16]) -> Option<usize>
+        ensures { ReadsRoute (lent self.entry.roads) self.entry.from self.entry.to places.now result }
+    {
+        let count = before_zeros(places);
+        let (links, rest) = places.split_at(count);
+        (is_blank(rest) && self.is_route(links)).then_some(count)
     }
 }

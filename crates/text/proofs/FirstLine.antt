@@ -1,23 +1,25 @@
 -- The lines of a text, from its first on.
-use Rattle.std.proofs.Common.{◌≡◌, ℕ, zero, suc, ◌+◌, ◌<◌, List, [], ◌∷◌, length, get_or, take, drop, refl, ap, suc-add, arith}
-use Rattle.std.proofs.lemmas.Bool.{eq-eqb, ne_eqb}
+use Rattle.std.proofs.Common.{◌≡◌, ℕ, suc, ◌<◌, eqb, List, [], ◌∷◌, length, Some, None, Option, MatchOption, refl, ap, inl, inr, arith}
+use Rattle.std.proofs.lemmas.Bool.{cases_Bool}
+use Rattle.text.specs.Parts.{◌⊛◌}
+use Rattle.text.specs.Cuts.{behind, cut_at}
 use Rattle.text.specs.Lines.{lines, onto_first}
 
--- i is the place of the first line feed
-pub lines_at_feed : (text : List ℕ) (i : ℕ) → i < length text → ((k : ℕ) → k < i → get_or text k 0 ≡ 10 → ⊥) → get_or text i 0 ≡ 10
-    → lines text ≡ take i text ∷ lines (drop (i + 1) text)
-unfolding lines
-lines_at_feed [] i inside before here = absurd (omega arith)
-lines_at_feed (b ∷ text) zero inside before here = rw (eq-eqb b 10 here) refl
-lines_at_feed (b ∷ text) (suc i) inside before here =
-    rw (ne_eqb b 10 (before 0 (omega arith)), suc-add)
-    (ap (onto_first b) (lines_at_feed text i (omega arith) (λ k h. before (suc k) (omega arith)) here))
+-- the outcome of a cut, with a byte put before the text
+one_before : (b n : ℕ) (text : List ℕ) (all : List (List ℕ)) (o : Option (List ℕ × List ℕ))
+    → MatchOption o (all ≡ text ∷ []) (λ p. (all ≡ p.0 ∷ lines p.1) × (length p.1 < n))
+    → MatchOption (Some (behind b) ⊛ o) (onto_first b all ≡ (b ∷ text) ∷ []) (λ p. (onto_first b all ≡ p.0 ∷ lines p.1) × (length p.1 < suc n))
+one_before b n text all None e = ap (onto_first b) e
+one_before b n text all (Some p) e = (ap (onto_first b) e.0, omega (arith, e.1))
 
--- a text with no line feed is one line
-pub lines_no_feed : (text : List ℕ) → 0 < length text → ((k : ℕ) → k < length text → get_or text k 0 ≡ 10 → ⊥) → lines text ≡ text ∷ []
-unfolding lines
-lines_no_feed [] some none = absurd (omega arith)
-lines_no_feed (b ∷ []) some none = rw (ne_eqb b 10 (none 0 (omega arith))) refl
-lines_no_feed (b ∷ c ∷ text) some none =
-    rw (ne_eqb b 10 (none 0 (omega arith)))
-    (ap (onto_first b) (lines_no_feed (c ∷ text) (omega arith) (λ k h. none (suc k) (omega arith))))
+-- the first line ends at the first line feed, or with the text
+pub lines_cut : (text : List ℕ) → 0 < length text
+    → MatchOption (cut_at 10 text) (lines text ≡ text ∷ []) (λ p. (lines text ≡ p.0 ∷ lines p.1) × (length p.1 < length text))
+unfolding lines cut_at
+lines_cut [] some = absurd (omega arith)
+lines_cut (b ∷ []) some = elim (cases_Bool (eqb b 10)) [ inl e ↦ rw e (refl, omega arith) | inr e ↦ rw e refl ]
+lines_cut (b ∷ c ∷ text) some =
+    elim (cases_Bool (eqb b 10)) [
+      | inl e ↦ rw e (refl, omega arith)
+      | inr e ↦ rw e (one_before b (length (c ∷ text)) (c ∷ text) (lines (c ∷ text)) (cut_at 10 (c ∷ text)) (lines_cut (c ∷ text) (omega arith)))
+    ]

@@ -1,3 +1,5 @@
-pub mod FirstLine
 pub mod Pieces
+pub mod Puts
 pub mod Values
+pub mod FirstLine
+pub mod Cut

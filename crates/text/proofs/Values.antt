@@ -1,12 +1,27 @@
 -- The number that a word's digits write, read digit by digit.
 --     read_after n word      the number that the word writes behind n, or nothing where some byte is no digit
-use Rattle.std.proofs.Common.{◌≡◌, ℕ, ◌+◌, ◌-◌, ◌*◌, ◌^◌, ◌<◌, ◌≤◌, true, false, cond, List, length, get_or, drop, Some, None, Option, refl, ◌∙◌, add-one, arith}
+use Rattle.std.proofs.Common.{◌≡◌, ℕ, ◌+◌, ◌-◌, ◌*◌, ◌^◌, ◌<◌, ◌≤◌, true, false, cond, leb, inl, inr, List, length, get_or, drop, Some, None, Option, refl, ◌∙◌, add-one, arith}
 use native.Mathlib.Nat.{pow-le-pow_right, pow-succ'}
 use Rattle.std.proofs.lemmas.List.{at_drop_more, at_drop_all}
+use Rattle.std.specs.Char.{IsDigitOf, NotDecimalDigitIn}
+use Rattle.std.proofs.lemmas.Bool.{and_from, and_left, and_right, cases_lt, le-leb, lt-leb}
 use Rattle.text.specs.Numbers.{digit, all_digits, value_after}
 
 abbrev pub read_after : ℕ → List ℕ → Option ℕ
 read_after n word = cond (all_digits word) (Some (value_after n word)) None
+
+-- what a character tells of its digit, of the byte that it is
+pub digit_told : (b d : ℕ) → IsDigitOf b d → d < 10 → (digit b ≡ true) × (d ≡ b - 48)
+digit_told b d (inl t) small = (and_from (leb 48 b) (leb b 57) (le-leb 48 b (omega arith)) (le-leb b 57 (omega arith)), omega arith)
+digit_told b d (inr (inl t)) small = absurd (omega arith)
+digit_told b d (inr (inr t)) small = absurd (omega arith)
+
+pub no_digit_told : (b : ℕ) → NotDecimalDigitIn 10 b → digit b ≡ false
+no_digit_told b told =
+    elim (cases_lt b 48) [
+      | inl below ↦ and_left (leb 48 b) (leb b 57) (lt-leb 48 b below)
+      | inr from ↦ and_right (leb 48 b) (leb b 57) (lt-leb b 57 (elim (cases_lt 57 b) [ inl above ↦ above | inr within ↦ absurd (omega (arith, told from within)) ]))
+    ]
 
 -- a digit is read
 pub read_digit : (n : ℕ) (word : List ℕ) (i : ℕ) → i < length word → digit (get_or word i 0) ≡ true

@@ -1,17 +1,12 @@
 -- Words of a line: its longest runs of bytes that are no blanks.
 --     blank b             b is a space, a tab or a carriage return
---     alike blanks b      b is a blank, or, where `blanks` is false, is none
 --     pieces line         what stands before, between and after blanks, empty pieces too
 --     words line          the pieces that are not empty
 use Rattle.std.specs.Prelude.{ℕ, Bool, cond, ◌||◌, List, [], ◌∷◌, length, filter, ◌==◌, nat_lt}
-use Rattle.std.specs.Bool.{beq}
 use Rattle.text.specs.Lines.{onto_first}
 
 abbrev pub blank : ℕ → Bool
 blank b = b == 32 || (b == 9 || b == 13)
-
-abbrev pub alike : Bool → ℕ → Bool
-alike blanks b = beq (blank b) blanks
 
 unfoldable pub pieces : List ℕ → List (List ℕ)
 pieces [] = [] ∷ []

@@ -3,12 +3,12 @@ ghost use Rattle.std.specs.Prelude.{◌≡◌, ◌≤◌, length, if◌then◌el
 ghost use Rattle.text.specs.Numbers.{all_digits, value, number_of};
 
 // The number that a word writes: 1 to 9 decimal digits, with no 0 in front of others; nothing for any other word.
+#[tactic(auto, unfolding(crate::specs::Numbers::number_of))]
 pub fn number(word: &[u8]) -> Option<u32>
     ensures { result ≡ number_of word.now }
 {
     match word {
-        [] => None,
-        [b'0', _, ..] => None,
+        [] | [b'0', _, ..] => None,
         _ if word.len() > 9 => None,
         _ => digits_value(word),
     }
@@ -21,10 +21,7 @@ fn digits_value(word: &[u8]) -> Option<u32>
 {
     let mut n = 0;
     for byte in word {
-        if !byte.is_ascii_digit() {
-            return None;
-        }
-        n = n * 10 + u32::from(*byte - b'0');
+        n = n * 10 + char::from(*byte).to_digit(10)?;
     }
     Some(n)
 }

@@ -2,3 +2,4 @@
 pub mod Line
 pub mod Town
 pub mod Causes
+pub mod Faults

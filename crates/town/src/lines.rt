@@ -10,15 +10,11 @@ use text::{first_word, number};
 pub fn read_line(line: &[u8]) -> Result<Option<Record>, Refusal>
     ensures { result ≡ line_of line.now }
 {
-    let Some((keyword, fields)) = first_word(line) else {
-        return Ok(None);
-    };
-    if let [b'#', ..] = keyword {
-        return Ok(None);
-    }
-    match read_record(keyword, fields) {
-        Some(record) => Ok(Some(record)),
-        None => Err(Refusal::NotACommand),
+    match first_word(line) {
+        None | Some(([b'#', ..], _)) => Ok(None),
+        Some((keyword, fields)) => read_record(keyword, fields)
+            .map(Some)
+            .ok_or(Refusal::NotACommand),
     }
 }
 
@@ -26,12 +22,10 @@ pub fn read_line(line: &[u8]) -> Result<Option<Record>, Refusal>
 fn read_record(keyword: &[u8], fields: &[u8]) -> Option<Record>
     ensures { result ≡ record_of keyword.now (words fields.now) }
 {
-    if keyword == b"link".as_slice() {
-        read_link(fields)
-    } else if keyword == b"turn".as_slice() {
-        read_turn(fields)
-    } else {
-        None
+    match keyword {
+        b"link" => read_link(fields),
+        b"turn" => read_turn(fields),
+        _ => None,
     }
 }
 
@@ -70,21 +64,16 @@ fn four_words(line: &[u8]) -> Option<(&[u8], &[u8], &[u8], &[u8])>
     let (second, line) = first_word(line)?;
     let (third, line) = first_word(line)?;
     let (fourth, line) = first_word(line)?;
-    match first_word(line) {
-        Some(_) => None,
-        None => Some((first, second, third, fourth)),
-    }
+    first_word(line)
+        .is_none()
+        .then_some((first, second, third, fourth))
 }
 
 // The tightness that a word writes.
 fn read_tightness(word: &[u8]) -> Option<u8>
     ensures { result ≡ tightness_of word.now }
 {
-    let n = number(word)?;
-    if n > 255 {
-        return None;
-    }
-    Some(n as u8)
+    u8::try_from(number(word)?).ok()
 }
 
 // The letter that a word is.

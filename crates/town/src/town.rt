@@ -14,13 +14,12 @@ pub fn lay_town(text: &[u8]) -> Result<Draft, TownFault>
     ensures { outcome_of result ≡ town text.now }
 {
     let mut draft = Draft::new();
+    // Counted by hand: `split` gives an empty piece behind a last line feed, and an iterator over lines is a type more.
     let mut left = text;
     let mut line = 0;
     while let Some((first, rest)) = first_line(left) {
         line += 1;
-        if let Err(refusal) = lay_line(&mut draft, first) {
-            return Err(TownFault { line, refusal });
-        }
+        lay_line(&mut draft, first).map_err(|refusal| TownFault { line, refusal })?;
         left = rest;
     }
     Ok(draft)
@@ -44,10 +43,8 @@ mod tests {
 
     // The line that is refused and the number of its refusal, or nothing where all of a text is laid.
     fn fault(text: &[u8]) -> Option<(usize, u8)> {
-        match lay_town(text) {
-            Ok(_) => None,
-            Err(fault) => Some((fault.line, fault.refusal.number())),
-        }
+        let fault = lay_town(text).err()?;
+        Some((fault.line, fault.refusal.number()))
     }
 
     #[test]

@@ -15,10 +15,8 @@ const DETOUR: Town = Town {
         (5, 3, 500, 0),
     ],
     turns: &[(1, 2, 'X', 0), (5, 2, 'R', 10), (1, 3, 'L', 5)],
-    closed: &[],
-    changed: &[],
     questions: &[(1, 3), (1, 2), (2, 3), (2, 2)],
-    written: &[],
+    ..Town::EMPTY
 };
 
 // One bar is lifted and two are set.
@@ -44,11 +42,8 @@ const SHUT_OFF: Town = Town {
 const APART: Town = Town {
     name: "apart",
     links: &[(1, 2, 10, 1), (2, 1, 10, 1), (3, 4, 10, 1), (4, 3, 0, 2)],
-    turns: &[],
-    closed: &[],
-    changed: &[],
     questions: &[(1, 3), (1, 4), (3, 1), (1, 2), (3, 3), (5, 6), (1, 512)],
-    written: &[],
+    ..Town::EMPTY
 };
 
 const BRIDGE: Town = Town {
@@ -60,11 +55,9 @@ const BRIDGE: Town = Town {
         (3, 4, 5, 4),
         (3, 4, 5, 0),
     ],
-    turns: &[],
     closed: &[3],
-    changed: &[],
     questions: &[(1, 4), (1, 2), (2, 3), (3, 4)],
-    written: &[],
+    ..Town::EMPTY
 };
 
 // Four nodes, each with a link to each other.
@@ -98,7 +91,7 @@ const CROWDED: Town = Town {
     closed: &[10],
     changed: &[(2, 8, 'R', 14)],
     questions: &[(1, 4), (2, 2), (4, 1)],
-    written: &[],
+    ..Town::EMPTY
 };
 
 // Asks each of these towns.

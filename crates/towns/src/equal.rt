@@ -19,10 +19,8 @@ pub(crate) const ZERO_LENGTHS: Town = Town {
         (5, 2, 'U', 1),
         (3, 2, 'X', 1_000_000),
     ],
-    closed: &[],
-    changed: &[],
     questions: &[(1, 3), (1, 1), (2, 3)],
-    written: &[],
+    ..Town::EMPTY
 };
 
 // Three by three nodes, a street to the right and one down from each.
@@ -48,10 +46,8 @@ const TIES: Town = Town {
         (4, 8, 'L', 0),
         (6, 9, 'R', 0),
     ],
-    closed: &[],
-    changed: &[],
     questions: &[(1, 9), (1, 5), (4, 6), (9, 1)],
-    written: &[],
+    ..Town::EMPTY
 };
 
 // Four blocks of two lanes.
@@ -67,11 +63,8 @@ pub(crate) const SIXTEEN: Town = Town {
         (4, 5, 80, 7),
         (4, 5, 88, 8),
     ],
-    turns: &[],
-    closed: &[],
-    changed: &[],
     questions: &[(1, 5), (1, 4), (2, 5)],
-    written: &[],
+    ..Town::EMPTY
 };
 
 // Three blocks of three lanes, and changing lanes is a turn.
@@ -96,10 +89,8 @@ const TWENTY_SEVEN: Town = Town {
         (3, 4, 'L', 20),
         (3, 5, 'L', 20),
     ],
-    closed: &[],
-    changed: &[],
     questions: &[(1, 4), (1, 3)],
-    written: &[],
+    ..Town::EMPTY
 };
 
 const GREATEST: Town = Town {
@@ -115,10 +106,8 @@ const GREATEST: Town = Town {
         (4, 3, 'U', 1_000_000),
         (1, 3, 'X', 1_000_000),
     ],
-    closed: &[],
-    changed: &[],
     questions: &[(1, 512), (1, 1), (512, 512), (512, 1)],
-    written: &[],
+    ..Town::EMPTY
 };
 
 // Asks each of these towns.

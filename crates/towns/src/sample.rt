@@ -19,10 +19,8 @@ pub(crate) const SAMPLE: Town = Town {
         (5, 6, 'X', 0),
         (6, 5, 'U', 200),
     ],
-    closed: &[],
-    changed: &[],
     questions: &[(1, 4), (3, 3), (4, 4), (2, 3), (4, 2), (1, 1), (4, 1)],
-    written: &[],
+    ..Town::EMPTY
 };
 
 const LINK_CLOSED: Town = Town {
@@ -50,20 +48,14 @@ const SECOND: Town = Town {
         (3, 4, 3, 5),
     ],
     turns: &[(2, 5, 'L', 4), (4, 3, 'R', 2)],
-    closed: &[],
-    changed: &[],
     questions: &[(1, 4), (1, 2), (3, 4)],
-    written: &[],
+    ..Town::EMPTY
 };
 
 const NO_LINKS: Town = Town {
     name: "no links",
-    links: &[],
-    turns: &[],
-    closed: &[],
-    changed: &[],
     questions: &[(1, 2), (512, 512)],
-    written: &[],
+    ..Town::EMPTY
 };
 
 // Asks the sample town, the second town and one without links.

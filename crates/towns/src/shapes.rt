@@ -14,10 +14,8 @@ const PARALLEL: Town = Town {
         (2, 3, 50, 4),
     ],
     turns: &[(1, 4, 'L', 0), (3, 6, 'X', 0), (2, 5, 'R', 40)],
-    closed: &[],
-    changed: &[],
     questions: &[(1, 3), (1, 2), (3, 1)],
-    written: &[],
+    ..Town::EMPTY
 };
 
 const LOOPS: Town = Town {
@@ -30,10 +28,8 @@ const LOOPS: Town = Town {
         (2, 2, 0, 0),
     ],
     turns: &[(1, 2, 'U', 3), (4, 5, 'X', 0)],
-    closed: &[],
-    changed: &[],
     questions: &[(1, 2), (1, 1), (2, 2), (2, 1)],
-    written: &[],
+    ..Town::EMPTY
 };
 
 // Routes go on through their destination and come back to it.
@@ -53,10 +49,8 @@ pub(crate) const THROUGH: Town = Town {
         (5, 2, 'U', 0),
         (5, 3, 'X', 0),
     ],
-    closed: &[],
-    changed: &[],
     questions: &[(1, 2), (1, 3), (2, 2), (3, 4)],
-    written: &[],
+    ..Town::EMPTY
 };
 
 const ROUND_TRIPS: Town = Town {
@@ -69,10 +63,8 @@ const ROUND_TRIPS: Town = Town {
         (3, 1, 30, 4),
     ],
     turns: &[(3, 1, 'U', 100), (3, 2, 'L', 15), (5, 1, 'S', 8)],
-    closed: &[],
-    changed: &[],
     questions: &[(1, 1), (2, 2), (3, 3)],
-    written: &[],
+    ..Town::EMPTY
 };
 
 // A two-way street of three blocks.
@@ -94,10 +86,8 @@ const TURN_BACKS: Town = Town {
         (4, 3, 'X', 0),
         (2, 1, 'U', 5),
     ],
-    closed: &[],
-    changed: &[],
     questions: &[(1, 4), (1, 1), (4, 4), (2, 3), (1, 3)],
-    written: &[],
+    ..Town::EMPTY
 };
 
 // Asks each of these towns.

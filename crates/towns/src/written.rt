@@ -11,25 +11,25 @@ const PAST_THE_END: [Town; 4] = [
     Town {
         name: "sample, 1 3 6 5 written",
         questions: &[(1, 4)],
-        written: &[1, 3, 6, 5],
+        written: Some(&[1, 3, 6, 5]),
         ..SAMPLE
     },
     Town {
         name: "sample, 2 4 3 6 5 written",
         questions: &[(1, 4)],
-        written: &[2, 4, 3, 6, 5],
+        written: Some(&[2, 4, 3, 6, 5]),
         ..SAMPLE
     },
     Town {
         name: "through the destination, 1 2 4 3 5 written",
         questions: &[(1, 2)],
-        written: &[1, 2, 4, 3, 5],
+        written: Some(&[1, 2, 4, 3, 5]),
         ..THROUGH
     },
     Town {
         name: "zero lengths, 2 6 4 written",
         questions: &[(1, 3)],
-        written: &[2, 6, 4],
+        written: Some(&[2, 6, 4]),
         ..ZERO_LENGTHS
     },
 ];
@@ -39,19 +39,19 @@ const OTHERS: [Town; 3] = [
     Town {
         name: "sixteen, 2 4 6 8 written",
         questions: &[(1, 5)],
-        written: &[2, 4, 6, 8],
+        written: Some(&[2, 4, 6, 8]),
         ..SIXTEEN
     },
     Town {
         name: "sample, 2 4 written",
         questions: &[(1, 4)],
-        written: &[2, 4],
+        written: Some(&[2, 4]),
         ..SAMPLE
     },
     Town {
         name: "sample, 1 3 6 5 6 5 written",
         questions: &[(1, 4)],
-        written: &[1, 3, 6, 5, 6, 5],
+        written: Some(&[1, 3, 6, 5, 6, 5]),
         ..SAMPLE
     },
 ];

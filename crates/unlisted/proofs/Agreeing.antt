@@ -1,10 +1,10 @@
 -- The front that two routes have in common. Assumes nothing.
-use Rattle.std.proofs.Common.{◌≡◌, ℕ, zero, suc, ◌+◌, ◌<◌, ◌≤◌, Bool, true, false, cond, eqb, ◌⊎◌, List, [], ◌∷◌, length, get_or, take, sym, refl, ap, ◌∙◌, ⊎_elim, arith}
-use Rattle.std.specs.List.{common_prefix_len, AllByRecursion}
+use Rattle.std.proofs.Common.{◌≡◌, ℕ, zero, suc, ◌+◌, ◌<◌, ◌≤◌, Bool, true, false, cond, not, ◌&&◌, eqb, List, [], ◌∷◌, length, get_or, take, sym, refl, zip, ap, ◌∙◌, ap₂, ⊎_elim, arith}
+use Rattle.std.specs.List.{common_prefix_len, prefix_len, before_first, AllByRecursion}
 use Rattle.std.proofs.ByRecursion.{All-get_or}
-use Rattle.std.proofs.lemmas.List.{get_or_past, get_or-take, take_all, take_more_same}
-use Rattle.std.proofs.lemmas.List.Sums.{common_prefix_len-le}
-use Rattle.std.proofs.lemmas.Bool.{cases_eq, cases_lt, eqb-true, eq-eqb}
+use Rattle.std.proofs.lemmas.List.{get_or_past, take_all, take_more_same}
+use Rattle.std.proofs.lemmas.List.Sums.{common_prefix_len-le, take_while-cons}
+use Rattle.std.proofs.lemmas.Bool.{cases_eq, cases_lt, eqb-true, eq-eqb, eqb-false}
 use Rattle.unlisted.specs.Leaving.{agree}
 
 pub agree_within : (r s : List ℕ) → (agree r s ≤ length r) × (agree r s ≤ length s)
@@ -65,22 +65,6 @@ agree_more r s k h some same =
     let in_s = within_route s k (λ e. some (same ∙ e)) in
     agree_from_front r s (k + 1) (take_more_same r s k 0 in_r in_s (same_front r s k h).0 same) (omega arith) (omega arith)
 
--- below the front's end the links are the same, and are links
-pub same_below : (r s : List ℕ) (k : ℕ) → Links r → k < agree r s → (get_or r k 0 ≡ get_or s k 0) × (1 ≤ get_or r k 0)
-same_below r s k links h =
-    let f = same_front r s (k + 1) (omega arith) in
-    let below : k < k + 1 = omega arith in (
-      sym (get_or-take (k + 1) r k 0 below) ∙ ap (λ (x : List ℕ). get_or x k 0) f.0 ∙ get_or-take (k + 1) s k 0 below,
-      All-get_or (λ a. 1 ≤ a) r k 0 (omega arith) links,
-    )
-
-pub agree_stops : (r s : List ℕ) (k : ℕ) → Links r → k ≤ agree r s → (get_or r k 0 ≡ 0) ⊎ (get_or r k 0 ≡ get_or s k 0 → ⊥) → k ≡ agree r s
-agree_stops r s k links h stop =
-    ⊎_elim
-    (λ (l : k < agree r s). let b = same_below r s k links l in absurd (⊎_elim (λ (z : get_or r k 0 ≡ 0). let one = b.1 in let none : ⊥ = omega arith in none) (λ ne. ne b.0) stop))
-    (λ (l : agree r s ≤ k). let e : k ≡ agree r s = omega arith in e)
-    (cases_lt k (agree r s))
-
 -- two routes that go on alike where their common front ends are the same
 pub same_route : (r s : List ℕ) → Links r → Links s → get_or r (agree r s) 0 ≡ get_or s (agree r s) 0 → r ≡ s
 same_route r s lr ls e =
@@ -96,3 +80,31 @@ same_route r s lr ls e =
         let all_r : length r ≤ k = route_over r k lr z in
         let all_s : length s ≤ k = route_over s k ls (sym e ∙ z) in
         sym (take_all k r all_r) ∙ f.0 ∙ take_all k s all_s
+
+-- places that hold the same links at the front
+abbrev pub same_links : List ℕ → List ℕ → ℕ
+same_links xs ys = prefix_len (λ (both : ℕ × ℕ). not (eqb both.0 0) && eqb both.0 both.1) (zip xs ys)
+
+abbrev before_zero : List ℕ → List ℕ
+before_zero ps = before_first (λ (p : ℕ). eqb p 0) ps
+
+agree_none : (r : List ℕ) → common_prefix_len eqb r [] ≡ 0
+agree_none [] = refl
+agree_none (a ∷ r) = refl
+
+-- one place more on both sides
+place_more : (x y n : ℕ) (r s : List ℕ) (a b t : Bool) → eqb x 0 ≡ a → eqb y 0 ≡ b → eqb x y ≡ t → n ≡ common_prefix_len eqb r s
+    → cond (not a && t) (1 + n) 0 ≡ common_prefix_len eqb (cond (not a) (x ∷ r) []) (cond (not b) (y ∷ s) [])
+place_more x y n r s true b t e f g h = refl
+place_more x y n r s false true true e f g h = absurd (eqb-false x 0 e (eqb-true x y g ∙ eqb-true y 0 f))
+place_more x y n r s false true false e f g h = refl
+place_more x y n r s false false t e f g h = ap₂ (λ (b : Bool) (k : ℕ). cond b (1 + k) 0) (sym g) h
+
+pub places_agree : (xs ys : List ℕ) → same_links xs ys ≡ agree (before_zero xs) (before_zero ys)
+unfolding agree
+places_agree [] ys = refl
+places_agree (x ∷ xs) [] = sym (agree_none (before_zero (x ∷ xs)))
+places_agree (x ∷ xs) (y ∷ ys) =
+    let some : ℕ → Bool = λ p. not (eqb p 0) in
+    place_more x y (same_links xs ys) (before_zero xs) (before_zero ys) (eqb x 0) (eqb y 0) (eqb x y) refl refl refl (places_agree xs ys)
+    ∙ sym (ap₂ (λ (r s : List ℕ). common_prefix_len eqb r s) (take_while-cons some x xs) (take_while-cons some y ys))

@@ -1,20 +1,20 @@
 -- The routes that a legible book lists. Assumes nothing.
-use Rattle.std.proofs.Common.{◌≡◌, ℕ, ◌+◌, ◌-◌, ◌*◌, ◌<◌, ◌≤◌, false, List, [], ◌∷◌, ◌++◌, length, get_or, take, drop, replicate, sym, refl, ap, ◌∙◌, subst, ⊎_elim, arith}
-use Rattle.std.specs.List.{prefix_len, AllByRecursion}
+use Rattle.std.proofs.Common.{◌≡◌, ℕ, ◌-◌, ◌*◌, ◌<◌, ◌≤◌, true, List, [], ◌∷◌, ◌++◌, length, get_or, take, drop, replicate, sym, refl, ap, ◌∙◌, subst, ⊎_elim, arith}
+use Rattle.std.specs.List.{position_or_len, AllByRecursion}
 use Rattle.std.proofs.ByRecursion.{All-weaker}
-use Rattle.std.proofs.lemmas.List.{length-take, get_or-take, get_or-drop, get_or_past, get_or_append_left, get_or-append_right, get_or-replicate, length-replicate, take-take, length-take-le, length-append, ext_get_or, take-append-drop}
-use Rattle.std.proofs.lemmas.List.Sums.{prefix_len-le-length}
+use Rattle.std.proofs.lemmas.List.{length-take, get_or_past, get_or_append_left, get_or-append_right, get_or-replicate, length-replicate, take-append-drop}
 use Rattle.std.proofs.lemmas.Bool.{cases_lt}
+use Rattle.std.proofs.Math.Logic.{∥∥₁_elim}
+use Rattle.std.proofs.Props.{props}
 use Rattle.network.specs.Roads.{Roads, Passable}
 use Rattle.routing.specs.Route.{Simple}
 use Rattle.routing.specs.Places.{Holds}
-use Rattle.routing.specs.Lent.{lent, zero_so}
-use Rattle.routing.specs.Book.{place, Legible, Unlisted}
-use Rattle.routing.proofs.Decides.{held}
+use Rattle.routing.specs.Lent.{lent, route_test}
+use Rattle.routing.specs.Book.{place, route, Legible, Unlisted}
+use Rattle.routing.proofs.Decides.{is_zero, held, test_simple, simple_passes}
 use Rattle.completion.specs.Completion.{Begins}
 use Rattle.completion.proofs.Completions.{simple_begins}
-use Rattle.unlisted.specs.declared.listing.Listing.{Listing}
-use Rattle.unlisted.specs.Listed.{route, Sound}
+use Rattle.unlisted.specs.declared.legible.ListedRoutes.{ListedRoutes}
 use Rattle.unlisted.proofs.Agreeing.{Links}
 
 pub simple_passable : (roads : Roads) (from to : ℕ) (w : List ℕ) → Simple roads from to w → AllByRecursion (Passable roads) w
@@ -40,15 +40,6 @@ padded_read r n k =
     (λ (l : length r ≤ k). get_or-append_right r (replicate n 0) (length r) k 0 refl l ∙ zeros_read n (k - length r) ∙ sym (get_or_past r k 0 l))
     (cases_lt k (length r))
 
--- places that read as a route, and as 0 past its end, hold it
-pub held_from_reads : (places r : List ℕ) → length r ≤ length places → ((k : ℕ) → k < length places → get_or places k 0 ≡ get_or r k 0) → Holds places r
-held_from_reads places r h reads =
-    let n = length places - length r in
-    ext_get_or 0 places (r ++ replicate n 0)
-    (let e : length (r ++ replicate n 0) ≡ length r + length (replicate {A = ℕ} n 0) = length-append r (replicate n 0) in
-    let f : length (replicate {A = ℕ} n 0) ≡ n = length-replicate n 0 in omega arith)
-    (λ k l. reads k l ∙ sym (padded_read r n k))
-
 held_read : (places r : List ℕ) (k : ℕ) → Holds places r → get_or places k 0 ≡ get_or r k 0
 held_read places r k h = ap (λ (x : List ℕ). get_or x k 0) h ∙ padded_read r (length places - length r) k
 
@@ -65,40 +56,39 @@ module _ (roads : Roads) (from to : ℕ) (book : List ℕ) (n : ℕ) (legible : 
       let P : List ℕ → Type 0 = λ r. Holds (place book i) r in
       subst P (sym (route_held roads from to book i l.0 l.1 l.2)) l.2
 
-  pub route_links : Links (route book i)
-  route_links = simple_links roads from to (route book i) route_simple
+  pub route_read : (k : ℕ) → get_or (place book i) k 0 ≡ get_or (route book i) k 0
+  route_read k = held_read (place book i) (route book i) k route_holds
 
-  pub route_read : (k : ℕ) → k < 1024 → get_or book (1024 * i + k) 0 ≡ get_or (route book i) k 0
-  route_read k l =
-      sym (get_or-drop (1024 * i) book k 0) ∙ sym (get_or-take 1024 (drop (1024 * i) book) k 0 l) ∙ held_read (place book i) (route book i) k route_holds
+-- each of the listed routes is what its places hold up to the first zero
+pub legible : (routes : ListedRoutes) → Legible (lent routes.listing.trip.roads) routes.listing.trip.from routes.listing.trip.to routes.listing.book.now routes.listing.listed
+legible routes i h =
+    let listing = routes.listing in
+    let roads = lent listing.trip.roads in
+    let from = listing.trip.from in
+    let to = listing.trip.to in
+    let book = listing.book.now in
+    let n = listing.listed in
+    let test : route_test roads from to (route book i) ≡ true =
+    ∥∥₁_elim routes.legible (hlevel props) (λ all. simple_passes roads to from (route book i) (route_simple roads from to book n all i h)) in
+    let holds : Holds (place book i) (route book i) = ∥∥₁_elim routes.legible (hlevel props) (λ all. route_holds roads from to book n all i h) in
+    (route book i, test_simple roads to from (route book i) test, holds)
 
-pub sound_simple : (listing : Listing) → Sound listing → (i : ℕ) → i < listing.listed
-    → Simple (lent listing.trip.roads) listing.trip.from listing.trip.to (route listing.book.now i)
-sound_simple listing s i h =
-    route_simple (lent listing.trip.roads) listing.trip.from listing.trip.to listing.book.now listing.listed s.legible i h
+pub listed_simple : (routes : ListedRoutes) (i : ℕ) → i < routes.listing.listed
+    → Simple (lent routes.listing.trip.roads) routes.listing.trip.from routes.listing.trip.to (route routes.listing.book.now i)
+listed_simple routes i h =
+    let trip = routes.listing.trip in
+    route_simple (lent trip.roads) trip.from trip.to routes.listing.book.now routes.listing.listed (legible routes) i h
 
-pub sound_links : (listing : Listing) → Sound listing → (i : ℕ) → i < listing.listed → Links (route listing.book.now i)
-sound_links listing s i h =
-    route_links (lent listing.trip.roads) listing.trip.from listing.trip.to listing.book.now listing.listed s.legible i h
+pub listed_links : (routes : ListedRoutes) (i : ℕ) → i < routes.listing.listed → Links (route routes.listing.book.now i)
+listed_links routes i h =
+    let trip = routes.listing.trip in
+    simple_links (lent trip.roads) trip.from trip.to (route routes.listing.book.now i) (listed_simple routes i h)
 
 pub route_short : (book : List ℕ) (i : ℕ) → length (route book i) ≤ 1024
 unfolding route
 route_short book i =
     let places = place book i in
-    omega (arith, length-take (prefix_len (zero_so false) places) places, length-take 1024 (drop (1024 * i) book))
-
-pub route_past : (book : List ℕ) (i k : ℕ) → 1024 ≤ k → 0 ≡ get_or (route book i) k 0
-route_past book i k h = sym (get_or_past (route book i) k 0 (omega (arith, route_short book i)))
-
--- the first places are the route
-pub route_slice : (book : List ℕ) (i n : ℕ) → n ≡ length (route book i) → take n (drop (1024 * i) book) ≡ route book i
-unfolding route
-route_slice book i n e =
-    let places = place book i in
-    let m = prefix_len (zero_so false) places in
-    let short : m ≤ length places = prefix_len-le-length (zero_so false) places in
-    let same : n ≡ m = e ∙ length-take-le m places short in
-    ap (λ (k : ℕ). take k (drop (1024 * i) book)) same ∙ sym (take-take m 1024 (drop (1024 * i) book) (omega (arith, length-take 1024 (drop (1024 * i) book))))
+    omega (arith, length-take (position_or_len is_zero places) places, length-take 1024 (drop (1024 * i) book))
 
 -- a simple route is unlisted where it is none of the listed ones
 pub unlisted_differs : (roads : Roads) (from to : ℕ) (book : List ℕ) (n : ℕ) → Legible roads from to book n → (w : List ℕ)
@@ -115,10 +105,11 @@ front_begins roads from to r k s =
     simple_begins roads from to (take k r) (drop k r) (let P : List ℕ → Type 0 = λ x. Simple roads from to x in subst P (sym (take-append-drop k r)) s)
 
 -- the links that are carried along a route are its links
-pub carried_simple : (listing : Listing) → Sound listing → (i : ℕ) → i < listing.listed → (r : List ℕ) → r ≡ route listing.book.now i
-    → Simple (lent listing.trip.roads) listing.trip.from listing.trip.to r
-carried_simple listing s i h r e =
-    let P : List ℕ → Type 0 = λ x. Simple (lent listing.trip.roads) listing.trip.from listing.trip.to x in subst P (sym e) (sound_simple listing s i h)
+pub carried_simple : (routes : ListedRoutes) (i : ℕ) → i < routes.listing.listed → (r : List ℕ) → r ≡ route routes.listing.book.now i
+    → Simple (lent routes.listing.trip.roads) routes.listing.trip.from routes.listing.trip.to r
+carried_simple routes i h r e =
+    let trip = routes.listing.trip in
+    let P : List ℕ → Type 0 = λ x. Simple (lent trip.roads) trip.from trip.to x in subst P (sym e) (listed_simple routes i h)
 
 pub carried_short : (book : List ℕ) (i : ℕ) (r : List ℕ) → r ≡ route book i → length r ≤ 1024
 carried_short book i r e = omega (arith, ap length e, route_short book i)

@@ -1,9 +1,9 @@
 -- A fork takes in one listed route after another. Assumes nothing.
-use Rattle.std.proofs.Common.{◌≡◌, ℕ, zero, suc, ◌+◌, ◌<◌, ◌≤◌, Bool, true, false, ◌&&◌, ◌||◌, eqb, leb, List, ◌∷◌, length, get_or, set, replicate, sym, refl, ap, ◌∙◌, ⊎_elim, add-one, arith}
+use Rattle.std.proofs.Common.{◌≡◌, ℕ, zero, suc, ◌+◌, ◌<◌, ◌≤◌, Bool, true, false, ◌&&◌, ◌||◌, ◌⊎◌, eqb, leb, List, ◌∷◌, length, get_or, set, replicate, sym, refl, ap, ◌∙◌, ⊎_elim, add-one, arith}
 use Rattle.std.proofs.lemmas.List.{get_or-set_same, get_or-set_other, get_or-replicate}
-use Rattle.std.proofs.lemmas.Bool.{cases_eq, eq-eqb, ne_eqb, le-leb, lt-leb}
+use Rattle.std.proofs.lemmas.Bool.{cases_eq, cases_lt, eq-eqb, ne_eqb, le-leb, lt-leb}
 use Rattle.network.proofs.Marked.{length_marks}
-use Rattle.unlisted.specs.declared.listing.Fork.{Fork}
+use Rattle.unlisted.specs.declared.along.Fork.{Fork}
 use Rattle.unlisted.specs.Leaving.{agree, one_goes_on}
 use Rattle.unlisted.specs.Along.{nexts, NewFrom}
 use Rattle.unlisted.proofs.Banning.{or_none}
@@ -50,24 +50,16 @@ module _ (routes : ℕ → List ℕ) (r : List ℕ) (k : ℕ) where
 pub length_nexts : (fork : Fork) → length (nexts fork) ≡ 1025
 length_nexts fork = omega (arith, length_marks fork.links)
 
--- the first route more, where its front is new and where it is not
-pub new_more : (fronts : List ℕ) (j low : ℕ) → NewFrom fronts j low → low ≤ get_or fronts j 0 → NewFrom fronts (j + 1) (get_or fronts j 0 + 1)
-new_more fronts j low n h = record {
-  shared = λ k l. (j, omega arith, omega arith);
+-- the first route more
+pub new_more : (fronts : List ℕ) (j low n : ℕ) → NewFrom fronts j low → low ≤ n → get_or fronts j 0 + 1 ≤ n → (n ≡ low) ⊎ (n ≡ get_or fronts j 0 + 1)
+    → NewFrom fronts (j + 1) n
+new_more fronts j low n new above over one = record {
+  shared = λ k l. ⊎_elim
+      (λ (s : k < low). let i = new.shared k s in (i.0, omega (arith, i.1), i.2))
+      (λ (s : low ≤ k). (j, omega arith, ⊎_elim (λ (e : n ≡ low). absurd (omega arith)) (λ (e : n ≡ get_or fronts j 0 + 1). omega arith) one))
+      (cases_lt k low);
   new = λ i l. ⊎_elim
       (λ (e : i ≡ j). omega (arith, ap (λ (x : ℕ). get_or fronts x 0) e))
-      (λ (ne : i ≡ j → ⊥). let s : i < j = omega arith in omega (arith, n.new i s))
+      (λ (ne : i ≡ j → ⊥). let s : i < j = omega arith in omega (arith, new.new i s))
       (cases_eq i j);
 }
-
-pub new_same : (fronts : List ℕ) (j low : ℕ) → NewFrom fronts j low → get_or fronts j 0 < low → NewFrom fronts (j + 1) low
-new_same fronts j low n h = record {
-  shared = λ k l. let s = n.shared k l in (s.0, omega (arith, s.1), s.2);
-  new = λ i l. ⊎_elim
-      (λ (e : i ≡ j). omega (arith, ap (λ (x : ℕ). get_or fronts x 0) e))
-      (λ (ne : i ≡ j → ⊥). let s : i < j = omega arith in n.new i s)
-      (cases_eq i j);
-}
-
-pub new_none : (fronts : List ℕ) → NewFrom fronts 0 0
-new_none fronts = record { shared = λ k l. absurd (omega arith); new = λ i l. absurd (omega arith) }

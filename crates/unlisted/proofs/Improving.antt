@@ -1,9 +1,10 @@
 -- The best route so far gets better. Assumes nothing.
-use Rattle.std.proofs.Common.{◌≡◌, ℕ, zero, suc, ◌+◌, ◌-◌, ◌<◌, ◌≤◌, Bool, true, false, eqb, ltb, ◌⊎◌, List, [], ◌∷◌, ◌++◌, length, get_or, take, replicate, Some, None, Option, sym, refl, ap, ◌∙◌, subst, inl, inr, ⊎_elim, arith}
-use Rattle.std.specs.Option.{option_map}
+use Rattle.std.proofs.Common.{◌≡◌, ℕ, zero, suc, ◌+◌, ◌-◌, ◌≤◌, Bool, true, false, eqb, ltb, ◌⊎◌, List, [], ◌∷◌, ◌++◌, length, get_or, take, replicate, Some, None, Option, sym, refl, ap, ◌∙◌, subst, inl, inr, ⊎_elim, arith}
+use Rattle.std.specs.Option.{option_map, option_or}
 use Rattle.std.specs.List.{AllByRecursion}
 use Rattle.std.proofs.lemmas.List.{take_at, length-append, length-replicate}
 use Rattle.std.proofs.lemmas.Bool.{eqb-true, eq-eqb, false≢true, both_ways, not-true, not-false, not_from_false, ltb-true, ltb-false, le-ltb, cases_Bool}
+use Rattle.network.specs.declared.link.Link.{Link}
 use Rattle.network.specs.Plan.{link}
 use Rattle.network.specs.Roads.{Roads, Passable}
 use Rattle.measure.specs.Ranks.{Ranks}
@@ -14,7 +15,7 @@ use Rattle.routing.specs.Enumeration.{ends_at}
 use Rattle.routing.specs.Places.{Holds}
 use Rattle.routing.specs.Book.{Finds}
 use Rattle.completion.specs.Onward.{too_dear}
-use Rattle.completion.specs.Completion.{Begins, Completes, CheapestCompletion}
+use Rattle.completion.specs.Completion.{Begins, Completes, CheapestCompletion, Completed}
 use Rattle.unlisted.specs.Best.{bound, price, Held, Better, Improves, Itself, Completion, Either}
 
 pub dear_at_least : (b c : ℕ) → too_dear (Some b) c ≡ true → b ≤ c
@@ -144,16 +145,17 @@ module _ {C : Type 0} (rank : C → ℕ) (m : Ranks) (roads : Roads) where
 
 -- The beginning itself.
 
-pub last_read : (a : ℕ) (bs : List ℕ) (k : ℕ) → k + 1 ≡ length (a ∷ bs) → get_or (a ∷ bs) k 0 ≡ last_of a bs
+last_read : (a : ℕ) (bs : List ℕ) (k : ℕ) → k + 1 ≡ length (a ∷ bs) → get_or (a ∷ bs) k 0 ≡ last_of a bs
 last_read a [] zero h = refl
 last_read a [] (suc k) h = absurd (omega arith)
 last_read a (b ∷ bs) zero h = absurd (omega arith)
 last_read a (b ∷ bs) (suc k) h = last_read b bs k (omega arith)
 
-pub ends_read : (roads : Roads) (to : ℕ) (p : List ℕ) → 0 < length p → (end : ℕ) → end ≡ (link roads.plan.links (get_or p (length p - 1) 0)).end → eqb end to ≡ ends_at roads to p
-ends_read roads to [] h end is = absurd (omega arith)
-ends_read roads to (a ∷ bs) h end is =
-    ap (λ (x : ℕ). eqb x to) (is ∙ ap (λ (x : ℕ). (link roads.plan.links x).end) (last_read a bs (length (a ∷ bs) - 1) (omega arith)))
+pub ends_read : (roads : Roads) (to : ℕ) (p : List ℕ) (last : Link) → 1 ≤ length p → last ≡ link roads.plan.links (get_or p (length p - 1) 0)
+    → eqb last.end to ≡ ends_at roads to p
+ends_read roads to [] last some is = absurd (omega arith)
+ends_read roads to (a ∷ bs) last some is =
+    ap (λ (l : Link). eqb l.end to) (is ∙ ap (link roads.plan.links) (last_read a bs (length (a ∷ bs) - 1) (omega arith)))
 
 pub begins_passable : (roads : Roads) (from : ℕ) (p : List ℕ) → Begins roads from p → AllByRecursion (Passable roads) p
 begins_passable roads from [] b = tt
@@ -206,7 +208,7 @@ module _ {C : Type 0} (rank : C → ℕ) (m : Ranks) (roads : Roads) (from to : 
       }
 
   -- A completion of it.
-  pub completion_none : (forbidden : List Bool) (limit : Option C) (line' : List ℕ) → limit ≡ bound best
+  completion_none : (forbidden : List Bool) (limit : Option C) (line' : List ℕ) → limit ≡ bound best
       → ((ws : List ℕ) → Completes roads from to p forbidden ws → too_dear (option_map rank limit) (cost m roads.plan (p ++ ws)) ≡ true) → line' ≡ line
       → Improves rank m roads (Completion roads from to p forbidden) best line best line'
   completion_none forbidden limit line' e dear same = record {
@@ -215,7 +217,7 @@ module _ {C : Type 0} (rank : C → ℕ) (m : Ranks) (roads : Roads) (from to : 
     kept = inl (refl, same);
   }
 
-  pub completion_better : (forbidden : List Bool) (limit : Option C) (found : Found C) (line' : List ℕ) → limit ≡ bound best
+  completion_better : (forbidden : List Bool) (limit : Option C) (found : Found C) (line' : List ℕ) → limit ≡ bound best
       → CheapestCompletion m roads from to p forbidden (option_map rank limit) line' (rank found.cost) found.count
       → Improves rank m roads (Completion roads from to p forbidden) best line (Some found) line'
   completion_better forbidden limit found line' e c = record {
@@ -230,3 +232,10 @@ module _ {C : Type 0} (rank : C → ℕ) (m : Ranks) (roads : Roads) (from to : 
       ap (λ (x : Option C). too_dear (option_map rank x) (rank found.cost)) (sym e) ∙ c.below,
     );
   }
+
+  -- what the search for one makes of the best route so far
+  pub completed : (forbidden : List Bool) (limit : Option C) (answer : Option (Found C)) (line' : List ℕ) → limit ≡ bound best
+      → Completed rank m roads from to p forbidden limit line answer line'
+      → Improves rank m roads (Completion roads from to p forbidden) best line (option_or answer best) line'
+  completed forbidden limit None line' e c = completion_none forbidden limit line' e c.0 c.1
+  completed forbidden limit (Some found) line' e c = completion_better forbidden limit found line' e c

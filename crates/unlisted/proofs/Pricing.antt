@@ -1,7 +1,7 @@
 -- What the first links of a route cost, one link more. Assumes nothing.
-use Rattle.std.proofs.Common.{◌≡◌, ℕ, zero, suc, ◌+◌, ◌-◌, ◌<◌, ◌≤◌, List, [], ◌∷◌, ◌++◌, map, length, get_or, take, set, sym, refl, ap, ◌∙◌, ⊎_elim, arith}
+use Rattle.std.proofs.Common.{◌≡◌, ℕ, zero, suc, ◌+◌, ◌<◌, ◌≤◌, List, [], ◌∷◌, ◌++◌, map, length, get_or, take, set, sym, refl, ap, ◌∙◌, ⊎_elim, arith}
 use Rattle.std.proofs.ByRecursion.{All-take}
-use Rattle.std.proofs.lemmas.List.{get_or-set_same, get_or-set_other, take_more, map-set, get_or-map, length-map}
+use Rattle.std.proofs.lemmas.List.{get_or-set_same, get_or-set_other, take_more, map-set, length-map}
 use Rattle.std.proofs.lemmas.Bool.{cases_eq}
 use Rattle.network.specs.Plan.{Plan}
 use Rattle.measure.specs.Ranks.{Ranks}
@@ -55,10 +55,3 @@ priced_more rank m plan r costs i c inside so_far is (suc k) h =
     ∙ ap (λ (x : ℕ). cost m plan (take x r)) (let s : i + 1 ≡ suc k = omega arith in s))
     (λ (ne : k ≡ i → ⊥). get_or-set_other (map rank costs) i k (rank c) 0 ne ∙ so_far (suc k) (omega arith))
     (cases_eq k i)
-
-pub cost_read : {C : Type 0} (rank : C → ℕ) (start : ℕ) (costs : List C) (count : ℕ) (c : C) → (count ≡ 0 → ⊥) → count ≤ length costs → c ≡ get_or costs (count - 1) c
-    → rank c ≡ get_or (start ∷ map rank costs) count 0
-cost_read rank start costs zero c some h is = absurd (some refl)
-cost_read rank start costs (suc n) c some h is =
-    let same : suc n - 1 ≡ n = omega arith in
-    ap rank (is ∙ ap (λ (k : ℕ). get_or costs k c) same) ∙ sym (get_or-map rank costs n c 0 (omega arith))

@@ -3,16 +3,17 @@ use Rattle.std.proofs.Common.{◌≡◌, ℕ, ◌+◌, ◌<◌, ◌≤◌, List,
 use Rattle.std.proofs.lemmas.Bool.{cases_lt, cases_eq}
 use Rattle.measure.specs.Ranks.{Ranks}
 use Rattle.routing.specs.declared.found.Found.{Found}
-use Rattle.routing.specs.Book.{Unlisted, Finds}
-use Rattle.unlisted.specs.declared.listing.Listing.{Listing}
+use Rattle.routing.specs.Book.{route, Unlisted, Finds}
+use Rattle.routing.specs.declared.listing.Listing.{Listing}
 use Rattle.unlisted.specs.Leaving.{Question, agree, LeftAt, Left, LeftLate}
-use Rattle.unlisted.specs.Listed.{route, question, Sound}
+use Rattle.unlisted.specs.declared.legible.ListedRoutes.{ListedRoutes}
+use Rattle.unlisted.specs.Listed.{question}
 use Rattle.unlisted.specs.Along.{Fronts, NewFrom}
 use Rattle.unlisted.specs.Best.{Either, Improves}
 use Rattle.unlisted.proofs.Agreeing.{agree_within}
 use Rattle.unlisted.proofs.Leaving.{unlisted_leaves, leaves_unlisted, leaves_either}
 use Rattle.unlisted.proofs.Improving.{improves_finds, finds_as}
-use Rattle.unlisted.proofs.Books.{route_short, sound_links, simple_links, unlisted_differs, differs_unlisted}
+use Rattle.unlisted.proofs.Books.{legible, route_short, listed_links, simple_links, unlisted_differs, differs_unlisted}
 
 module _ (q : Question) (j : ℕ) where
   -- before the first beginning along a route, which is the route itself
@@ -79,15 +80,16 @@ fronts_short listing r fronts f i h =
     omega (arith, f.each i h, agree_within (route listing.book.now i) r, route_short listing.book.now i)
 
 -- along all listed routes, if there is one, the routes that leave them are the unlisted ones
-pub left_unlisted : (listing : Listing) → Sound listing → (w : List ℕ)
+pub left_unlisted : (listing : Listing) (w : List ℕ)
     → Left (question listing) listing.listed w → Unlisted (question listing).roads (question listing).from (question listing).to listing.book.now listing.listed w
-left_unlisted listing s w l =
+left_unlisted listing w l =
     let q = question listing in
     differs_unlisted q.roads q.from q.to listing.book.now listing.listed w l.3.0 (leaves_unlisted q (q.routes l.0) w l.1 l.3.1)
 
-pub unlisted_left : (listing : Listing) → Sound listing → 0 < listing.listed → (w : List ℕ)
-    → Unlisted (question listing).roads (question listing).from (question listing).to listing.book.now listing.listed w → Left (question listing) listing.listed w
-unlisted_left listing s some w u =
-    let q = question listing in
-    let l = unlisted_leaves q w some (sound_links listing s) (simple_links q.roads q.from q.to w u.0) (unlisted_differs q.roads q.from q.to listing.book.now listing.listed s.legible w u) in
+pub unlisted_left : (routes : ListedRoutes) → 0 < routes.listing.listed → (w : List ℕ)
+    → Unlisted (question routes.listing).roads (question routes.listing).from (question routes.listing).to routes.listing.book.now routes.listing.listed w
+    → Left (question routes.listing) routes.listing.listed w
+unlisted_left routes some w u =
+    let q = question routes.listing in
+    let l = unlisted_leaves q w some (listed_links routes) (simple_links q.roads q.from q.to w u.0) (unlisted_differs q.roads q.from q.to routes.listing.book.now q.listed (legible routes) w u) in
     (l.0, l.1, l.2, (u.0, l.3))

@@ -10,8 +10,8 @@ use Rattle.network.specs.Plan.{Plan}
 use Rattle.network.specs.Marks.{marks}
 use Rattle.measure.specs.Ranks.{Ranks}
 use Rattle.measure.specs.Cost.{cost}
-use Rattle.unlisted.specs.declared.listing.Along.{Along}
-use Rattle.unlisted.specs.declared.listing.Fork.{Fork}
+use Rattle.unlisted.specs.declared.along.Along.{Along}
+use Rattle.unlisted.specs.declared.along.Fork.{Fork}
 use Rattle.unlisted.specs.Leaving.{Question, agree, goes_on}
 
 abbrev pub nexts : Fork → List Bool

@@ -1,57 +1,56 @@
 // The cheapest route of a trip, and the cheapest that a book does not list.
-ghost use Rattle.std.specs.Prelude.{◌≡◌, ◌*◌, ◌≤◌, map, length, replicate};
+ghost use Rattle.std.specs.Prelude.{◌≡◌, ◌≤◌, map, length, replicate};
 ghost use Rattle.routing.specs.Route.{Simple};
 ghost use Rattle.routing.specs.Lent.{lent};
-ghost use Rattle.routing.specs.Book.{Legible, Unlisted, Finds, Cleared};
-ghost use Rattle.unlisted.specs.Listed.{Sound};
+ghost use Rattle.routing.specs.Book.{Unlisted, Finds, Cleared};
 
-use crate::listing::Listing;
+use crate::legible::ListedRoutes;
 use crate::search::look_along_all;
-use completion::{Beginning, Tree, Trip, complete};
+use completion::{Beginning, Search, complete};
 use measure::Measure;
 use network::LinkSet;
-use routing::{Found, Roads};
+use routing::{Found, Trip};
 
 // A cheapest simple route of a trip, written to the line with zeros after it.
 fn cheapest_route<M: Measure>(
     measure: &M,
     trip: Trip<'_>,
-    labels: &mut [M::Cost],
-    tree: &mut Tree,
-    line: &mut [u16],
+    search: &mut Search<'_, M>,
+    line: &mut [u16; 1024],
 ) -> Option<Found<M::Cost>>
-    requires room { (1024 ≤ length labels.old) × (length line.old ≡ 1024) }
     ensures { Finds M.Measure.rank (M.Measure.ranks measure.now) (lent trip.entry.roads) (Simple (lent trip.entry.roads) trip.entry.from trip.entry.to) line.new result }
 {
     let none = LinkSet::new();
     let beginning = Beginning {
+        measure,
+        trip,
         links: &[],
         cost: measure.start(),
         banned: trip.roads.closed,
         forbidden: &none,
     };
-    complete(measure, trip, beginning, None, labels, tree, line)
+    complete(&beginning, None, search, line)
 }
 
-// A cheapest simple route that is not listed, written to the line with zeros after it.
+// A cheapest simple route that is not listed, written to the line with zeros after it. The table is the front of one that may
+// be longer.
 fn find_unlisted<M: Measure>(
     measure: &M,
-    listing: Listing<'_, '_>,
+    routes: ListedRoutes<'_, '_>,
     table: &mut [M::Cost],
-    line: &mut [u16],
+    line: &mut [u16; 1024],
 ) -> Option<Found<M::Cost>>
-    requires room { (2048 ≤ length table.old) × (length line.old ≡ 1024) }
-    requires sound { Sound listing }
-    ensures { Finds M.Measure.rank (M.Measure.ranks measure.now) (lent listing.entry.trip.roads)
-        (Unlisted (lent listing.entry.trip.roads) listing.entry.trip.from listing.entry.trip.to listing.entry.book.now listing.entry.listed)
+    requires { 2048 ≤ length table.old }
+    ensures { Finds M.Measure.rank (M.Measure.ranks measure.now) (lent routes.entry.listing.trip.roads)
+        (Unlisted (lent routes.entry.listing.trip.roads) routes.entry.listing.trip.from routes.entry.listing.trip.to routes.entry.listing.book.now routes.entry.listing.listed)
         line.new result }
 {
     let (labels, costs) = table.split_at_mut(1024);
-    let mut tree = Tree::new();
-    if listing.listed == 0 {
-        cheapest_route(measure, listing.trip, labels, &mut tree, line)
+    let mut search = Search::new(labels);
+    if routes.listing.listed == 0 {
+        cheapest_route(measure, routes.listing.trip, &mut search, line)
     } else {
-        look_along_all(measure, listing, labels, costs, &mut tree, line)
+        look_along_all(measure, routes, costs, &mut search, line)
     }
 }
 
@@ -59,31 +58,28 @@ fn find_unlisted<M: Measure>(
 fn clear<M: Measure>(measure: &M, costs: &mut [M::Cost])
     ensures { map M.Measure.rank costs.new ≡ replicate (length costs.old) (M.Measure.ranks measure.now).start }
 {
-    for i in 0..costs.len() {
-        costs[i] = measure.start();
+    // a fill asks for a clone that cannot fail, which a measure does not promise of its costs
+    for cost in costs.iter_mut() {
+        *cost = measure.start();
     }
 }
 
 // A cheapest simple route of a question among those that a book does not list, written to the line with zeros after it.
+// A caller may lend a longer table, and the contract says what it holds after.
 pub fn cheapest_unlisted<M: Measure>(
     measure: &M,
-    roads: Roads<'_>,
-    from: u16,
-    to: u16,
-    book: &[u16],
-    listed: usize,
+    routes: ListedRoutes<'_, '_>,
     table: &mut [M::Cost],
     line: &mut [u16; 1024],
 ) -> Option<Found<M::Cost>>
-    requires room { (listed ≤ 64) × ((1024 * listed ≤ length book.now) × (2048 ≤ length table.old)) }
-    requires legible { Legible (lent roads) from to book.now listed }
-    ensures finds { Finds M.Measure.rank (M.Measure.ranks measure.now) (lent roads.entry) (Unlisted (lent roads.entry) from to book.now listed) line.new result }
+    requires room { 2048 ≤ length table.old }
+    ensures finds { Finds M.Measure.rank (M.Measure.ranks measure.now) (lent routes.entry.listing.trip.roads)
+        (Unlisted (lent routes.entry.listing.trip.roads) routes.entry.listing.trip.from routes.entry.listing.trip.to routes.entry.listing.book.now routes.entry.listing.listed)
+        line.new result }
     ensures table { Cleared M.Measure.rank (M.Measure.ranks measure.now) table.old table.new }
 {
-    let trip = Trip { roads, from, to };
-    let listing = Listing { trip, book, listed };
     let work = &mut table[..2048];
-    let found = find_unlisted(measure, listing, work, line);
+    let found = find_unlisted(measure, routes, work, line);
     clear(measure, work);
     found
 }

@@ -1,23 +1,19 @@
-use Rattle.std.proofs.Common.{ℕ, ◌-◌, List, length, get_or, sym, ap, ◌∙◌, arith}
+use Rattle.std.proofs.Common.{ap, ◌∙◌}
 use Rattle.network.specs.declared.link.Link.{Link}
-use Rattle.network.specs.Plan.{link, no_link}
 use Rattle.routing.specs.Lent.{lent}
-use Rattle.completion.proofs.Ends.{ends_at_origin, ends_with}
-use Rattle.completion.proofs.Reaches.{link_at}
+use Rattle.completion.proofs.Ends.{ends_with}
+use Rattle.completion.proofs.Facts.{begins_held}
 use Rattle.completion.proofs.completing.end_node.Goals as goal
 
-pub returns-then-last-eq0 : goal.returns-then-last-eq0
-returns-then-last-eq0 c = ends_at_origin (lent c.args.trip.roads) c.args.trip.from c.args.links.now c.requires (sym c.last_link-last.ensures ∙ c.if-last-eq0.true)
+pub link-requires : goal.link-requires
+link-requires g c =
+    let b = c.args.beginning.now in
+    let roads = lent b.trip.roads in
+    (ends_with roads b.trip.from b.links.now c.in-Some.last.now (begins_held roads b.trip.from b.links.now b.begins) c.in-Some.ensures.value).0
 
-pub bounds-links-last : goal.bounds-links-last
-bounds-links-last c =
-    let e = ends_with (lent c.args.trip.roads) c.args.trip.from c.args.links.now c.requires (λ z. c.if-last-eq0.false (c.last_link-last.ensures ∙ z)) in
-    omega (arith, e.0.0, e.0.1, c.last_link-last.ensures, ap length c.links.ensures)
-
-pub returns : goal.returns
-returns c =
-    let roads = lent c.args.trip.roads in
-    let e = ends_with roads c.args.trip.from c.args.links.now c.requires (λ z. c.if-last-eq0.false (c.last_link-last.ensures ∙ z)) in
-    ap (λ (ls : List Link). (get_or ls (c.last_link-last.result - 1) no_link).end) c.links.ensures
-    ∙ ap (λ (l : Link). l.end) (sym (link_at roads.plan.links c.last_link-last.result (omega (arith, e.0.0, c.last_link-last.ensures))))
-    ∙ ap (λ (n : ℕ). (link roads.plan.links n).end) c.last_link-last.ensures ∙ e.1
+pub returns-in-Some : goal.returns-in-Some
+returns-in-Some g c =
+    let b = c.args.beginning.now in
+    let roads = lent b.trip.roads in
+    ap (λ (l : Link). l.end) c.link.ensures
+    ∙ (ends_with roads b.trip.from b.links.now c.in-Some.last.now (begins_held roads b.trip.from b.links.now b.begins) c.in-Some.ensures.value).1

@@ -4,10 +4,10 @@ use Rattle.completion.specs.Onward.{setting, graph}
 use Rattle.completion.specs.View.{tally, Growing}
 use Rattle.completion.proofs.growing.grow.Given as goal
 
-abbrev pub invariant-loop-number : goal.invariant-loop-number
-invariant-loop-number g l =
-    (s : ℕ) × Growing g.M.Measure.rank (graph (g.M.Measure.ranks l.measure) (setting g.M.Measure.rank l.quest)) s
-    (length (plan l.quest.network.now).links + 1) (g.M.Measure.rank l.quest.cost) l.labels l.tree
+abbrev pub invariant-loop-link : goal.invariant-loop-link
+invariant-loop-link g l =
+    (s : ℕ) × Growing g.M.Measure.rank (graph (g.M.Measure.ranks l.quest.measure.now) (setting g.M.Measure.rank l.quest)) s
+    (length (plan l.quest.network.now).links + 1) (g.M.Measure.rank l.quest.cost) l.search.frontier.labels.costs.now l.search.tree l.search.frontier.nodes
 
-abbrev pub decreases-loop-number : goal.decreases-loop-number
-decreases-loop-number g l = 1024 - tally l.tree
+abbrev pub decreases-loop-link : goal.decreases-loop-link
+decreases-loop-link g l = 1024 - tally l.search.tree

@@ -10,19 +10,18 @@ use Rattle.completion.proofs.growing.set_out.Goals as goal
 pub relax_from-requires : goal.relax_from-requires
 relax_from-requires g c =
     let rank = g.M.Measure.rank in
-    let m = g.M.Measure.ranks c.args.measure.now in
+    let m = g.M.Measure.ranks c.args.quest.now.measure.now in
     let s = setting rank c.args.quest.now in
-    let law = graph_laws m (g.M.Measure.lawful c.args.measure.now) s in
-    let labels = c.args.labels.now in
-    let tree = c.clear.new.self in
+    let law = graph_laws m (g.M.Measure.lawful c.args.quest.now.measure.now) s in
+    let labels = c.clear.new.self.frontier.labels.costs.now in
+    let tree = c.clear.new.self.tree in
     let cleared = c.clear.ensures in
-    let fresh = clear_fresh rank s.cost labels tree cleared.depth cleared.settled (graph m s) (sym (graph_begin m s)) in
+    let fresh = clear_fresh rank s.cost labels tree cleared.steps cleared.settled (graph m s) (sym (graph_begin m s)) in
     record {
-      room = c.requires.room;
       stands = record { after = refl; node = refl; label = sym (label_none rank s.cost labels tree); depth = sym (depth_none rank s.cost labels tree); shallow = omega arith };
       growing = record {
-        inv = subst (λ (n : ℕ). Inv (graph m s) 0 1 n (view rank s.cost labels tree)) (sym (clear_tally rank s.cost labels tree cleared.depth cleared.settled)) (fresh_inv (graph m s) law (view rank s.cost labels tree) fresh);
-        ready = clear_ready rank s.cost labels tree cleared.depth cleared.settled cleared.sound cleared.none;
+        inv = subst (λ (n : ℕ). Inv (graph m s) 0 1 n (view rank s.cost labels tree)) (sym (clear_tally rank s.cost labels tree cleared.steps cleared.settled)) (fresh_inv (graph m s) law (view rank s.cost labels tree) fresh);
+        ready = clear_ready rank s.cost labels tree cleared.steps cleared.settled c.clear.new.self.frontier.nodes cleared.none;
       };
       late = fresh_late (graph m s) (view rank s.cost labels tree) fresh;
     }

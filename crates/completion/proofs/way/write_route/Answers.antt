@@ -1,26 +1,18 @@
-use Rattle.std.proofs.Common.{◌≡◌, ℕ, ◌+◌, ◌-◌, ◌<◌, ◌≤◌, length, take, drop, sym, refl, ap, ◌∙◌, subst, arith, length-drop}
-use Rattle.std.proofs.lemmas.List.{length-take-le}
-use Rattle.completion.specs.View.{Traced}
-use Rattle.completion.proofs.Traces.{traced_part, behind_front}
+use Rattle.std.proofs.Common.{◌≡◌, length, ◌++◌, replicate, ap, ◌∙◌, arith}
+use Rattle.completion.specs.declared.tree.Step.{Step}
+use Rattle.completion.specs.View.{depth_of}
+use Rattle.completion.proofs.Views.{step_read}
+use Rattle.completion.proofs.Traces.{written}
 use Rattle.completion.proofs.way.write_route.Goals as goal
 
 pub returns : goal.returns
 returns c =
     let tree = c.args.tree.now in
-    let beginning = c.args.beginning.now in
-    let n = length beginning in
-    let count = c.write_way-count.result in
-    let out = c.write_way-count.new.line in
-    let wrote = c.write_way-count.ensures in
-    let kept : length out ≡ length c.args.line.now = c.write_way-count.auto.line in
-    let room : n + count ≤ length out = omega (arith, kept, wrote.count, c.requires.room) in
-    let some : 0 < count = omega (arith, wrote.count, c.requires.labelled) in
-    let long : length (take count (drop n out)) ≡ count = length-take-le count (drop n out) (omega (arith, length-drop n out, room)) in
-    record {
-      way = take count (drop n out);
-      deep = long ∙ wrote.count;
-      traced = subst (λ (k : ℕ). Traced tree c.args.number k 0 (take count (drop n out))) (sym long) (traced_part tree c.args.number n count out some room wrote.traced);
-      total = ap (λ (k : ℕ). n + k) (sym long);
-      route = behind_front beginning out c.blank_from.new.line c.copy_from_slice.new.self n count (n - 0) (length c.args.line.now)
-          c.copy_from_slice.ensures.after refl (omega arith) room (sym kept) c.blank_from.ensures;
-    }
+    let way = c.write_way.new.way in
+    let deep : c.from-count.result ≡ depth_of tree c.args.link.number =
+    c.from-count.ensures ∙ ap (λ (x : Step). x.depth) (step_read tree c.args.link.number c.place.result c.args.link.low c.place.ensures) in
+    let long : length way ≡ c.from-count.result = omega (arith, c.write_way.auto.way, c.split_at_mut-way.ensures.front_len) in
+    let left = c.split_at_mut-front.ensures.back_len in
+    let behind = c.split_at_mut-way.ensures.back_len in
+    written tree c.args.link.number c.args.beginning.now c.args.line.now way c.fill.new.self _ c.from-count.result (omega (arith, long, deep)) (omega (arith, long)) c.write_way.ensures
+    (c.fill.ensures.after (λ y e. e) ∙ ap (λ n. replicate n 0) (omega (arith, left, behind))) (ap (λ xs. xs ++ (way ++ c.fill.new.self)) c.copy_from_slice.ensures.after)

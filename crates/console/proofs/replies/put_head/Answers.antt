@@ -1,6 +1,6 @@
 use Rattle.std.proofs.Common.{codes, arith}
 use Rattle.measure.proofs.Decimals.{length_long}
-use Rattle.measure.proofs.Puts.{put_next}
+use Rattle.text.proofs.Puts.{put_next}
 use Rattle.console.proofs.Fronts.{number_near}
 use Rattle.console.proofs.replies.put_head.Goals as goal
 

@@ -1,6 +1,6 @@
 use Rattle.std.proofs.Common.{take}
 use Rattle.std.specs.List.{flat_map}
-use Rattle.measure.specs.Put.{Put}
+use Rattle.text.specs.Put.{Put}
 use Rattle.console.specs.Replies.{after_blank}
 use Rattle.console.proofs.writing.put_links.Given as goal
 

@@ -1,59 +1,43 @@
-use Rattle.std.proofs.Common.{◌≡◌, ℕ, ◌+◌, ◌-◌, true, false, List, length, drop, is_some, sym, ap, ◌∙◌, ap₂, arith, length-drop}
-use Rattle.network.specs.declared.record.Record.{Record}
-use Rattle.network.specs.Plan.{Plan}
+use Rattle.std.proofs.Common.{◌≡◌, ℕ, ◌+◌, ◌-◌, length, Err, sym, ap, ◌∙◌, arith, length-drop}
+use Rattle.std.proofs.lemmas.Result.{err_from_is_err_and}
 use Rattle.network.specs.Laid.{drafted}
-use Rattle.network.specs.Laying.{record_refusal, with_record}
-use Rattle.image.specs.Image.{record_in, records_in, lay_all}
-use Rattle.image.proofs.Readings.{refuses, link_comes, turn_comes, record_next}
-use Rattle.image.proofs.reading.lay_records.Goals.{then-i-links, else-i-links}
+use Rattle.image.specs.Image.{records_in, lay_all}
+use Rattle.image.specs.Steps.{reading_of}
+use Rattle.image.proofs.Readings.{record_next, was_refused, was_laid}
 use Rattle.image.proofs.reading.lay_records.Goals as goal
 
-pub returns-then-is_err : goal.returns-then-is_err
-returns-then-is_err c =
+pub returns-in_err-or : goal.returns-in_err-or
+returns-in_err-or c =
     let i = c.loop-i.i in
-    let links = c.args.links in
+    let k = c.args.contents in
     let bs = c.loop-i.left.now in
-    let p = drafted c.loop-i.draft in
-    let took : c.if-i-links.record.0 ≡ record_in i links bs =
-    elim c.if-i-links.branch [
-      | then-i-links w ↦ ap (λ x. x.0) w.record-is ∙ w.read_link.ensures.0 ∙ sym (link_comes i links bs w.if-i-links.true)
-      | else-i-links w ↦ ap (λ x. x.0) w.record-is ∙ w.read_turn.ensures.0 ∙ sym (turn_comes i links bs w.if-i-links.false)
-    ] in
-    let refused : is_some (record_refusal p (record_in i links bs)) ≡ true =
-    ap (λ (r : Record). is_some (record_refusal p r)) (sym took) ∙ ap is_some (sym c.lay.ensures.answer) ∙ sym (refuses c.lay.result)
-    ∙ sym c.is_err.ensures.value ∙ c.if-is_err.true in
-    sym (record_next i links (links + c.args.turns - i) bs p true (omega arith) refused) ∙ c.loop-i.invariant.1
+    let q = drafted c.loop-i.draft in
+    let next = record_next i k.links (k.links + k.turns - i) bs q c.lay.result (omega arith) (rw c.read_record-record.ensures.0 at c.lay.ensures.answer) in
+    let refused = was_refused c.lay.result _ _ c.in_err-or.ensures in
+    let p = err_from_is_err_and c.from_residual.result c.from_residual.ensures.1 in
+    ap reading_of (p.1 ∙ ap Err (p.2 ∙ refused.1)) ∙ sym (rw refused.0 at next) ∙ c.loop-i.invariant.laid
 
 pub loop-i-preserved : goal.loop-i-preserved
 loop-i-preserved c =
     let i = c.loop-i.i in
-    let links = c.args.links in
-    let n = links + c.args.turns - i in
+    let k = c.args.contents in
+    let n = k.links + k.turns - i in
     let bs = c.loop-i.left.now in
-    let p = drafted c.loop-i.draft in
-    let took : c.if-i-links.record.0 ≡ record_in i links bs =
-    elim c.if-i-links.branch [
-      | then-i-links w ↦ ap (λ x. x.0) w.record-is ∙ w.read_link.ensures.0 ∙ sym (link_comes i links bs w.if-i-links.true)
-      | else-i-links w ↦ ap (λ x. x.0) w.record-is ∙ w.read_turn.ensures.0 ∙ sym (turn_comes i links bs w.if-i-links.false)
-    ] in
-    let rest : c.if-i-links.record.1.now ≡ drop 9 bs =
-    elim c.if-i-links.branch [
-      | then-i-links w ↦ ap (λ x. x.1.now) w.record-is ∙ w.read_link.ensures.1
-      | else-i-links w ↦ ap (λ x. x.1.now) w.record-is ∙ w.read_turn.ensures.1
-    ] in
-    let laid : is_some (record_refusal p (record_in i links bs)) ≡ false =
-    ap (λ (r : Record). is_some (record_refusal p r)) (sym took) ∙ ap is_some (sym c.lay.ensures.answer) ∙ sym (refuses c.lay.result)
-    ∙ sym c.is_err.ensures.value ∙ c.if-is_err.false in
-    let plan : drafted c.lay.new.self ≡ with_record p (record_in i links bs) = c.lay.ensures.after ∙ ap (with_record p) took in
-    let fewer : links + c.args.turns - (i + 1) ≡ n - 1 = omega arith in (
-      ap length rest ∙ length-drop 9 bs ∙ omega (arith, c.loop-i.invariant.0),
-      ap₂ (λ (q : Plan) (rs : List Record). lay_all (i + 1) q rs) plan (ap₂ (λ (m : ℕ) (x : List ℕ). records_in (i + 1) links m x) fewer rest)
-          ∙ sym (record_next i links n bs p false (omega arith) laid) ∙ c.loop-i.invariant.1,
-    )
+    let q = drafted c.loop-i.draft in
+    let next = record_next i k.links n bs q c.lay.result (omega arith) (rw c.read_record-record.ensures.0 at c.lay.ensures.answer) in
+    let laid = was_laid c.lay.result _ _ c.in_ok-or.ensures in
+    let rest = c.read_record-record.ensures.1 in
+    let plan = rw c.read_record-record.ensures.0 at c.lay.ensures.after in
+    let fewer : k.links + k.turns - (i + 1) ≡ n - 1 = omega arith in
+    record {
+      room = ap length rest ∙ length-drop 9 bs ∙ omega (arith, c.loop-i.invariant.room);
+      laid = rw (plan, rest, fewer) (sym (rw laid at next) ∙ c.loop-i.invariant.laid);
+    }
 
 pub returns : goal.returns
 unfolding records_in lay_all
 returns c =
-    let none : c.args.links + c.args.turns - c.loop-i.i ≡ 0 = omega arith in
-    ap (λ (m : ℕ). lay_all c.loop-i.i (drafted c.loop-i.draft) (records_in c.loop-i.i c.args.links m c.loop-i.left.now)) (sym none)
-    ∙ c.loop-i.invariant.1
+    let k = c.args.contents in
+    let none : k.links + k.turns - c.loop-i.i ≡ 0 = omega arith in
+    ap (λ (m : ℕ). lay_all c.loop-i.i (drafted c.loop-i.draft) (records_in c.loop-i.i k.links m c.loop-i.left.now)) (sym none)
+    ∙ c.loop-i.invariant.laid

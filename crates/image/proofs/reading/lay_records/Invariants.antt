@@ -5,7 +5,8 @@ use Rattle.image.specs.Image.{records_in, lay_all}
 use Rattle.image.proofs.reading.lay_records.Given as goal
 
 abbrev pub invariant-loop-i : goal.invariant-loop-i
-invariant-loop-i l =
-    (length l.left ≡ 9 * (l.links + l.turns - l.i))
-    × (lay_all l.i (drafted l.draft) (records_in l.i l.links (l.links + l.turns - l.i) l.left)
-    ≡ lay_all 0 empty (records_in 0 l.links (l.links + l.turns) l.bytes))
+invariant-loop-i l = record {
+  room : length l.left ≡ 9 * (l.contents.links + l.contents.turns - l.i);
+  laid : lay_all l.i (drafted l.draft) (records_in l.i l.contents.links (l.contents.links + l.contents.turns - l.i) l.left)
+      ≡ lay_all 0 empty (records_in 0 l.contents.links (l.contents.links + l.contents.turns) l.initial.left);
+}

@@ -1,29 +1,26 @@
 -- The first line ends at the first line feed, or with the text.
-use Rattle.std.proofs.Common.{◌≡◌, ℕ, ◌-◌, ◌<◌, List, [], ◌∷◌, length, take, drop, sym, ap, ◌∙◌, arith, length-drop}
-use Rattle.std.proofs.lemmas.List.{take_rest, drop_all, nil_from_length}
-use Rattle.std.proofs.lemmas.Bool.{eqb-true, eqb-false}
+use Rattle.std.proofs.Common.{◌≡◌, ◌<◌, List, [], ◌∷◌, length, Some, None, Option, MatchOption, ℕ, sym, refl, ap, ◌∙◌, arith, Bor}
+use Rattle.std.specs.Option.{option_or}
+use Rattle.std.proofs.lemmas.List.{take_rest, drop_all}
+use Rattle.std.proofs.lemmas.Bool.{eqb-false}
 use Rattle.text.specs.Lines.{lines}
-use Rattle.text.proofs.FirstLine.{lines_at_feed, lines_no_feed}
+use Rattle.text.specs.Cuts.{cut_at}
+use Rattle.text.proofs.FirstLine.{lines_cut}
 use Rattle.text.proofs.lines.first_line.Goals as goal
 
-pub returns-then-byte-eq10 : goal.returns-then-byte-eq10
-returns-then-byte-eq10 c =
-    let text = c.args.text.now in
-    let i = c.loop-i.i in
-    let inside : i < length text = omega arith in
-    let front : i - 0 ≡ i = omega arith in
-    simp (take_rest, front, length-drop) (lines_at_feed text i inside c.loop-i.invariant c.if-byte-eq10.true, omega arith)
-
-pub returns-then-is_empty : goal.returns-then-is_empty
-returns-then-is_empty c =
-    let text = c.args.text.now in
-    nil_from_length text (eqb-true (length text) 0 (sym c.if-is_empty.ensures))
+-- a text is cut at its first line feed, or is one line
+cut_or_whole : (text : List ℕ) (o : Option (Bor (List ℕ) × Bor (List ℕ))) (all : Bor (List ℕ) × Bor (List ℕ))
+    → 0 < length text → all.0.now ≡ text → all.1.now ≡ []
+    → MatchOption o (cut_at 10 text ≡ None) (λ p. cut_at 10 text ≡ Some (p.0.now, p.1.now))
+    → MatchOption (option_or o (Some all)) (text ≡ []) (λ p. (lines text ≡ p.0.now ∷ lines p.1.now) × (length p.1.now < length text))
+unfolding lines
+cut_or_whole text None all some is end cut =
+    (rw (is, end) (rw cut at (lines_cut text some)), omega (arith, ap length end))
+cut_or_whole text (Some p) all some is end cut = rw cut at (lines_cut text some)
 
 pub returns : goal.returns
-unfolding lines
 returns c =
     let text = c.args.text.now in
-    let n = length text in
-    let rest : take (n - n) (drop n text) ≡ [] = take_rest text n ∙ drop_all n text (omega arith) in
-    let some : 0 < n = omega (arith, eqb-false n 0 (sym c.if-is_empty.ensures)) in
-    (lines_no_feed text some (λ k h. c.loop-i.invariant k (omega arith)) ∙ ap (λ (r : List ℕ). text ∷ lines r) (sym rest), omega (arith, ap length rest))
+    let some : 0 < length text = omega (arith, eqb-false (length text) 0 (sym c.if-is_empty.ensures)) in
+    let rest = take_rest text (length text) ∙ drop_all (length text) text (omega arith) in
+    rw c.or.ensures (cut_or_whole text c.cut_at.result _ some refl rest c.cut_at.ensures)

@@ -1,5 +1,5 @@
 use Rattle.unlisted.specs.Along.{NewFrom}
 use Rattle.unlisted.proofs.forks.new_from.Given as goal
 
-abbrev pub invariant-loop-i : goal.invariant-loop-i
-invariant-loop-i l = NewFrom l.fronts l.i l.low
+abbrev pub invariant-loop-front : goal.invariant-loop-front
+invariant-loop-front l = NewFrom l.fronts l.front-index l.low

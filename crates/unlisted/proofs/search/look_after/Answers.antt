@@ -11,23 +11,28 @@ use Rattle.unlisted.proofs.Candidates.{candidate_left, left_candidate}
 use Rattle.unlisted.proofs.Improving.{improves_as}
 use Rattle.unlisted.proofs.search.look_after.Goals as goal
 
-pub look_from-requires : goal.look_from-requires
-look_from-requires g c =
-    let listing = c.args.listing in
+pub invariant_of-beginning : goal.invariant_of-beginning
+invariant_of-beginning g c =
+    let listing = c.args.routes.listing in
     let r = c.args.along.links.now in
     let k = c.args.count in
-    let ready = c.requires.ready in
-    let short = carried_short listing.book.now c.args.along.number r ready.links in record {
-      room = (c.requires.room.0, (c.requires.room.1, omega (arith, length-take-le k r c.requires.count)));
-      begins = front_begins (lent listing.trip.roads) listing.trip.from listing.trip.to r k (carried_simple listing c.requires.sound c.args.along.number ready.number r ready.links);
+    let ready = c.requires.ready in record {
+      begins = ∣ front_begins (lent listing.trip.roads) listing.trip.from listing.trip.to r k (carried_simple c.args.routes c.args.along.number ready.number r ready.links) ∣₁;
       priced = c.price_of.ensures ∙ ready.costs.each k c.requires.count;
       bans = c.requires.bans;
     }
 
+pub look_from-requires : goal.look_from-requires
+look_from-requires g c =
+    let r = c.args.along.links.now in
+    let k = c.args.count in
+    let short = carried_short c.args.routes.listing.book.now c.args.along.number r c.requires.ready.links in
+    omega (arith, length-take-le k r c.requires.count)
+
 pub returns : goal.returns
 returns g c =
-    let q = question c.args.listing in
-    let few = links_few c.args.listing.trip.roads.network.now in
+    let q = question c.args.routes.listing in
+    let few = links_few c.args.routes.listing.trip.roads.network.now in
     let r = c.args.along.links.now in
     let k = c.args.count in
     let ends = c.fork-fork.result.ends in

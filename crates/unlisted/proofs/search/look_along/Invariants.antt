@@ -1,4 +1,4 @@
-use Rattle.std.proofs.Common.{◌+◌, ◌-◌, ◌≤◌, length, take}
+use Rattle.std.proofs.Common.{◌+◌, take}
 use Rattle.network.specs.Marks.{marks}
 use Rattle.routing.specs.Lent.{lent}
 use Rattle.routing.specs.Book.{Finds}
@@ -9,9 +9,5 @@ use Rattle.unlisted.proofs.search.look_along.Given as goal
 
 abbrev pub invariant-loop-count : goal.invariant-loop-count
 invariant-loop-count g l =
-    (l.count ≤ length l.along.links.now + 1)
-    × Bans (lent l.listing.trip.roads) (take (l.count - 1) l.along.links.now) (marks l.banned)
-    × Finds g.M.Measure.rank (g.M.Measure.ranks l.measure) (lent l.listing.trip.roads) (LeftLate (question l.listing) l.along.number l.count) l.line l.best
-
-abbrev pub decreases-loop-count : goal.decreases-loop-count
-decreases-loop-count g l = l.count - l.low
+    Bans (lent l.routes.listing.trip.roads) (take l.count l.along.links.now) (marks l.banned)
+    × Finds g.M.Measure.rank (g.M.Measure.ranks l.measure) (lent l.routes.listing.trip.roads) (LeftLate (question l.routes.listing) l.along.number (l.count + 1)) l.line l.best

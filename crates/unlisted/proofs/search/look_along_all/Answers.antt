@@ -16,20 +16,18 @@ loop-number-init g c = λ w l. absurd (omega (arith, l.2))
 
 pub price_along-requires : goal.price_along-requires
 price_along-requires g c =
-    let listing = c.args.listing in
+    let listing = c.args.routes.listing in
     let links = c.links-links.result.now in
-    let simple = carried_simple listing c.requires.sound c.loop-number.number c.loop-number-test.true links c.links-links.ensures in
+    let simple = carried_simple c.args.routes c.loop-number.number c.loop-number-test.true links c.links-links.ensures in
     let short = carried_short listing.book.now c.loop-number.number links c.links-links.ensures in record {
-      room = omega (arith, c.requires.room.1.0);
+      room = omega (arith, c.requires);
       laid = All-weaker (Passable (lent listing.trip.roads)) (Laid (plan listing.trip.roads.network.now).links) (λ a p. p.0) links (simple_passable (lent listing.trip.roads) listing.trip.from listing.trip.to links simple);
     }
 
 pub look_along-best-requires : goal.look_along-best-requires
 look_along-best-requires g c =
-    let q = question c.args.listing in
+    let q = question c.args.routes.listing in
     let F : List ℕ → Type 0 = λ x. Fronts q x c.fronts-fronts.result in record {
-      room = (omega (arith, c.requires.room.0), omega (arith, c.requires.room.1.1));
-      sound = c.requires.sound;
       ready = record {
         number = c.loop-number-test.true;
         links = c.links-links.ensures;
@@ -41,6 +39,6 @@ look_along-best-requires g c =
 
 pub returns : goal.returns
 returns g c =
-    let all : c.loop-number.number ≡ c.args.listing.listed = omega (arith, c.loop-number.auto.number-end, c.loop-number-test.false) in
-    let F : ℕ → Type 0 = λ n. Finds g.M.Measure.rank (g.M.Measure.ranks c.args.measure.now) (lent c.args.listing.trip.roads) (Left (question c.args.listing) n) c.loop-number.line c.loop-number.best in
+    let all : c.loop-number.number ≡ c.args.routes.listing.listed = omega (arith, c.loop-number.auto.number-end, c.loop-number-test.false) in
+    let F : ℕ → Type 0 = λ n. Finds g.M.Measure.rank (g.M.Measure.ranks c.args.measure.now) (lent c.args.routes.listing.trip.roads) (Left (question c.args.routes.listing) n) c.loop-number.line c.loop-number.best in
     subst F all c.loop-number.invariant

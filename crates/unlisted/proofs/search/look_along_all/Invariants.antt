@@ -6,4 +6,4 @@ use Rattle.unlisted.proofs.search.look_along_all.Given as goal
 
 abbrev pub invariant-loop-number : goal.invariant-loop-number
 invariant-loop-number g l =
-    Finds g.M.Measure.rank (g.M.Measure.ranks l.measure) (lent l.listing.trip.roads) (Left (question l.listing) l.number) l.line l.best
+    Finds g.M.Measure.rank (g.M.Measure.ranks l.measure) (lent l.routes.listing.trip.roads) (Left (question l.routes.listing) l.number) l.line l.best

@@ -1,4 +1,4 @@
-use Rattle.std.proofs.Common.{◌≤◌, sym, ◌∙◌, arith}
+use Rattle.std.proofs.Common.{rules, ◌≤◌, sym, ◌∙◌, arith}
 use Rattle.std.proofs.lemmas.Bool.{not-true}
 use Rattle.network.specs.declared.link.Link.{Link}
 use Rattle.network.specs.Laid.{drafted}
@@ -17,5 +17,5 @@ invariant_of-self c =
       omega arith,
     ) in
     let above : last_start before.links ≤ c.args.start = omega arith in
-    let laws = lawful_add_link before _ l c.push.ensures (lawful c.args.self.now.network) within above in
-    record { sound = laws.0; rising = laws.1.0; marked = laws.1.1.0; meeting = laws.1.1.1.0; apart = laws.1.1.1.1.0 }
+    let laws = lawful_add_link before _ l c.push.ensures.items (lawful c.args.self.now.network) within above in
+    record { few = search (rules, arith); sound = laws.0; rising = laws.1.0; marked = laws.1.1.0; meeting = laws.1.1.1.0; apart = laws.1.1.1.1.0 }

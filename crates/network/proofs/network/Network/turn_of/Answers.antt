@@ -1,4 +1,6 @@
-use Rattle.std.proofs.Common.{ℕ, sym, ◌∙◌, ap₂}
+use Rattle.std.proofs.Common.{ℕ, List, get_or, sym, ap, ◌∙◌, ap₂}
+use Rattle.network.specs.declared.turn.Turn.{Turn}
+use Rattle.network.specs.Plan.{no_turn}
 use Rattle.network.specs.Laid.{plan}
 use Rattle.network.specs.Roads.{turn}
 use Rattle.network.proofs.Entries.{no_place_has}
@@ -9,7 +11,7 @@ pub returns-in-Some : goal.returns-in-Some
 returns-in-Some c =
     let turns = (plan c.args.self.now).turns in
     let found = c.in-Some.ensures in
-    c.get.ensures
+    ap (λ (ts : List Turn). get_or ts c.in-Some.place no_turn) c.turns.ensures
     ∙ sym (turn_is_entry turns c.from.result c.from-2.result c.in-Some.place found.0 found.2 found.1)
     ∙ ap₂ (λ (i o : ℕ). turn turns i o) c.from.ensures c.from-2.ensures
 

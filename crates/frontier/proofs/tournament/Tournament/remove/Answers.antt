@@ -1,0 +1,8 @@
+use Rattle.frontier.proofs.Frontiers.{taken_out}
+use Rattle.frontier.proofs.tournament.Tournament.remove.Goals as goal
+
+pub returns : goal.returns
+returns g c = record {
+  sound = c.set_leaf.ensures.sound;
+  waiting = taken_out c.args.self.now _ c.args.link.number c.set_leaf.ensures.here c.set_leaf.ensures.others;
+}
