@@ -8,7 +8,7 @@ use Rattle.network.specs.Plan.{link, laid, Laid, no_link}
 use Rattle.network.specs.Roads.{LinksBelow}
 use Rattle.measure.specs.Ranks.{Ranks}
 use Rattle.completion.specs.declared.quest.Stand.{Stand}
-use Rattle.frontier.specs.declared.tournament.Tournament.{Tournament}
+use Rattle.frontier.specs.declared.frontier.Frontier.{Frontier}
 use Rattle.completion.specs.declared.tree.Tree.{Tree}
 use Rattle.completion.specs.Graph.{Graph, Laws}
 use Rattle.completion.specs.Growth.{State, Inv, Latest, Relaxed}
@@ -64,7 +64,7 @@ module _ (m : Ranks) (s : Setting) where
       let p = place_start a t n in
       omega (arith, p.0, p.2, f.others (t - 1) (omega (arith, p.0)) p.1, e)
 
-  module _ {C : Type 0} (rank : C → ℕ) (begin a : ℕ) (labels : List C) (tree : Tree) (nodes : Tournament) where
+  module _ {C : Type 0} (rank : C → ℕ) (begin a : ℕ) (labels : List C) (tree : Tree) (nodes : Frontier) where
     -- before the first of them
     pub growing_first : (node first : ℕ) → node ≡ stop s a → LinksBelow s.plan.links node first → Growing rank g a 1 begin labels tree nodes → Growing rank g a (first + 1) begin labels tree nodes
     growing_first node first e f w = record {
@@ -107,7 +107,7 @@ module _ {C : Type 0} (rank : C → ℕ) (m : Ranks) (s : Setting) (labels label
       })
       r
 
-  pub growing_more : (nodes nodes' : Tournament) → Laws (graph m s) → tree'.settled ≡ tree.settled → Growing rank (graph m s) stand.number t s.cost labels tree nodes → Latest stand.number st
+  pub growing_more : (nodes nodes' : Frontier) → Laws (graph m s) → tree'.settled ≡ tree.settled → Growing rank (graph m s) stand.number t s.cost labels tree nodes → Latest stand.number st
       → Relaxed (graph m s) stand.number t st after → Ready rank s.cost labels' tree' nodes'
       → Growing rank (graph m s) stand.number (t + 1) s.cost labels' tree' nodes' × Latest stand.number after
   growing_more nodes nodes' law same w late r ready =

@@ -4,7 +4,7 @@ use Rattle.std.proofs.lemmas.Bool.{eq-eqb, ne_eqb}
 use Rattle.network.specs.Marks.{marks, marked}
 use Rattle.network.specs.Plan.{link}
 use Rattle.measure.specs.Ranks.{Ranks}
-use Rattle.frontier.specs.declared.tournament.Tournament.{Tournament}
+use Rattle.frontier.specs.declared.frontier.Frontier.{Frontier}
 use Rattle.frontier.specs.Tournament.{NoneWaits, Changed}
 use Rattle.frontier.specs.Tournament as waiting
 use Rattle.completion.specs.declared.quest.Stand.{Stand}
@@ -24,11 +24,11 @@ unfolding graph
 goal_is m s t = refl
 
 -- labels that are the same
-pub growing_same : {C : Type 0} (rank : C → ℕ) (g : Graph) (s k begin : ℕ) (labels labels' : List C) (tree : Tree) (nodes : Tournament) → labels' ≡ labels
+pub growing_same : {C : Type 0} (rank : C → ℕ) (g : Graph) (s k begin : ℕ) (labels labels' : List C) (tree : Tree) (nodes : Frontier) → labels' ≡ labels
     → Growing rank g s k begin labels tree nodes → Growing rank g s k begin labels' tree nodes
 growing_same rank g s k begin labels labels' tree nodes e w = subst (λ (ls : List _). Growing rank g s k begin ls tree nodes) (sym e) w
 
-module _ {C : Type 0} (rank : C → ℕ) (m : Ranks) (s : Setting) (law : Laws (graph m s)) (labels : List C) (tree : Tree) (nodes : Tournament) (source : ℕ)
+module _ {C : Type 0} (rank : C → ℕ) (m : Ranks) (s : Setting) (law : Laws (graph m s)) (labels : List C) (tree : Tree) (nodes : Frontier) (source : ℕ)
     (w : Growing rank (graph m s) source (length s.plan.links + 1) s.cost labels tree nodes) where
   abbrev g : Graph
   g = graph m s
@@ -70,7 +70,7 @@ module _ {C : Type 0} (rank : C → ℕ) (m : Ranks) (s : Setting) (law : Laws (
       not_goal : g.goal t ≡ false
       not_goal = goal_is m s t ∙ ne_eqb _ _ on
 
-      pub settled_growing : (nodes' : Tournament) → Changed nodes nodes' t false → Growing rank g t 1 s.cost labels tree' nodes'
+      pub settled_growing : (nodes' : Frontier) → Changed nodes nodes' t false → Growing rank g t 1 s.cost labels tree' nodes'
       settled_growing nodes' gone = record {
         inv = subst (λ (n : ℕ). Inv g t 1 n after) (sym tally_more)
             (settle_inv g law source t (tally tree) st after whole least not_goal (settle_view rank s.cost labels tree tree' t inside.0 few e1 e2));

@@ -6,7 +6,7 @@ use Rattle.std.proofs.lemmas.Bool.{cases_eq, cases_Bool, both_ways, and_right, a
 use Rattle.network.specs.declared.linkset.LinkSet.{LinkSet}
 use Rattle.network.specs.Marks.{marks, marked}
 use Rattle.network.proofs.Marked.{length_marks}
-use Rattle.frontier.specs.declared.tournament.Tournament.{Tournament}
+use Rattle.frontier.specs.declared.frontier.Frontier.{Frontier}
 use Rattle.frontier.specs.Tournament.{waits, Changed, NoneWaits, label}
 use Rattle.frontier.specs.Tournament as waiting
 use Rattle.frontier.proofs.Frontiers.{waits_own}
@@ -94,7 +94,7 @@ module _ {C : Type 0} (rank : C → ℕ) (begin : ℕ) where
         other_label (suc k) ne = ap (λ x. label (map rank x) (suc k)) e1 ∙ label_kept rank labels t (suc k) c some ne
 
     -- the frontier follows
-    pub put_ready : (nodes nodes' : Tournament) → 0 < step.depth → (view rank begin labels tree).settled t ≡ false → Ready rank begin labels tree nodes → Changed nodes nodes' t true → Ready rank begin labels' tree' nodes'
+    pub put_ready : (nodes nodes' : Frontier) → 0 < step.depth → (view rank begin labels tree).settled t ≡ false → Ready rank begin labels tree nodes → Changed nodes nodes' t true → Ready rank begin labels' tree' nodes'
     put_ready nodes nodes' deep left ready changed =
         let p = put_view in
         record {
@@ -127,7 +127,7 @@ module _ {C : Type 0} (rank : C → ℕ) (begin : ℕ) where
           befores = λ k. ap (λ (xs : List Step). (get_or (no_step ∷ xs) k no_step).before) e2;
         }
 
-    pub settle_ready : (nodes nodes' : Tournament) → Ready rank begin labels tree nodes → Changed nodes nodes' t false → Ready rank begin labels tree' nodes'
+    pub settle_ready : (nodes nodes' : Frontier) → Ready rank begin labels tree nodes → Changed nodes nodes' t false → Ready rank begin labels tree' nodes'
     settle_ready nodes nodes' ready changed =
         let u = settle_view in
         record {
@@ -172,7 +172,7 @@ module _ {C : Type 0} (rank : C → ℕ) (begin : ℕ) where
       unlabelled = clear_depth;
     }
 
-    pub clear_ready : (nodes : Tournament) → NoneWaits nodes → Ready rank begin labels tree nodes
+    pub clear_ready : (nodes : Frontier) → NoneWaits nodes → Ready rank begin labels tree nodes
     clear_ready nodes none = record {
       waiting = λ n. none n ∙ sym (ap (λ x. ltb 0 x && not ((view rank begin labels tree).settled n)) (clear_depth n));
     }
@@ -196,7 +196,7 @@ module _ {C : Type 0} (rank : C → ℕ) (begin : ℕ) where
       }
 
   -- the link that the frontier has as its least is the least of the state
-  module _ (labels : List C) (tree : Tree) (nodes : Tournament) (ready : Ready rank begin labels tree nodes) where
+  module _ (labels : List C) (tree : Tree) (nodes : Frontier) (ready : Ready rank begin labels tree nodes) where
     waits_open : (n : ℕ) → waits nodes n ≡ true → (0 < (view rank begin labels tree).depth n) × ((view rank begin labels tree).settled n ≡ false)
     waits_open n e =
         let p = and_parts (ltb 0 ((view rank begin labels tree).depth n)) (not ((view rank begin labels tree).settled n)) (sym (ready.waiting n) ∙ e) in

@@ -10,7 +10,7 @@
 --     Threaded, Traced              the way to a link, by the links before
 use Rattle.std.specs.Prelude.{◌≡◌, ℕ, ◌+◌, ◌-◌, ◌<◌, ◌≤◌, true, false, not, ◌&&◌, List, ◌∷◌, ◌++◌, map, length, get_or, replicate, count_by, Option, MatchOption, nat_lt, slice_index, slice_index_or}
 use Rattle.network.specs.Marks.{marks}
-use Rattle.frontier.specs.declared.tournament.Tournament.{Tournament}
+use Rattle.frontier.specs.declared.frontier.Frontier.{Frontier}
 use Rattle.frontier.specs.Tournament.{waits}
 use Rattle.completion.specs.declared.tree.Step.{Step}
 use Rattle.completion.specs.declared.tree.Tree.{Tree}
@@ -43,10 +43,10 @@ view rank begin labels tree = record {
 abbrev pub tally : Tree → ℕ
 tally tree = count_by (λ b. b) (marks tree.settled)
 
-pub record Ready {C : Type 0} (rank : C → ℕ) (begin : ℕ) (labels : List C) (tree : Tree) (nodes : Tournament) : Type 0 where
+pub record Ready {C : Type 0} (rank : C → ℕ) (begin : ℕ) (labels : List C) (tree : Tree) (nodes : Frontier) : Type 0 where
   pub waiting : (n : ℕ) → waits nodes n ≡ (nat_lt 0 ((view rank begin labels tree).depth n) && not ((view rank begin labels tree).settled n))
 
-pub record Growing {C : Type 0} (rank : C → ℕ) (g : Graph) (s k begin : ℕ) (labels : List C) (tree : Tree) (nodes : Tournament) : Type 0 where
+pub record Growing {C : Type 0} (rank : C → ℕ) (g : Graph) (s k begin : ℕ) (labels : List C) (tree : Tree) (nodes : Frontier) : Type 0 where
   pub inv : Inv g s k (tally tree) (view rank begin labels tree)
   pub ready : Ready rank begin labels tree nodes
 

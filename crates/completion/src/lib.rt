@@ -13,7 +13,7 @@ mod tree;
 mod trees;
 mod way;
 
-pub use beginning::{Beginning, Trip};
+pub use beginning::{Beginning, Departure, Trip};
 pub use completing::complete;
 pub use onward::{cost_after, is_dear};
 pub use search::Search;

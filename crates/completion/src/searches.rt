@@ -6,7 +6,7 @@ ghost use Rattle.completion.specs.Steps.{no_step};
 
 use crate::search::Search;
 use crate::tree::Tree;
-use frontier::Frontier;
+use frontier::LabelledFrontier;
 use measure::Measure;
 
 impl<'a, M: Measure> Search<'a, M> {
@@ -20,7 +20,7 @@ impl<'a, M: Measure> Search<'a, M> {
     {
         Search {
             tree: Tree::new(),
-            frontier: Frontier::new(labels),
+            frontier: LabelledFrontier::new(labels),
         }
     }
 

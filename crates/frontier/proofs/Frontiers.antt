@@ -1,38 +1,38 @@
 -- What holds of a frontier: how its leaves tell which links wait, and what a change of a leaf or of a label leaves.
 use Rattle.std.proofs.Common.{◌≡◌, ℕ, zero, suc, ◌+◌, ◌*◌, ◌/◌, ◌<◌, ◌≤◌, true, false, ◌&&◌, eqb, ltb, ◌≢◌, List, [], ◌∷◌, length, get_or, set, replicate, Option, Some, None, MatchOption, sym, refl, ap, ◌∙◌, subst, ⊎_elim, arith}
 use Rattle.std.proofs.lemmas.Bool.{cases_eq, cases_lt, cases_Bool, both_ways, ltb-true, lt-ltb, eq-eqb, ne_eqb, eqb-true, and_parts, and_from, and_right}
-use Rattle.std.specs.Option.{option_map}
+use Rattle.std.specs.Option.{option_map, is_some}
 use Rattle.std.proofs.lemmas.List.{get_or-set_same, get_or-set_other}
 use Rattle.frontier.specs.declared.linknumber.LinkNumber.{LinkNumber}
-use Rattle.frontier.specs.declared.tournament.Tournament.{Tournament}
+use Rattle.frontier.specs.declared.frontier.Frontier.{Frontier}
 use Rattle.frontier.specs.Tournament.{label, winner, held, waits, Right, Within, Sound, Mending, NoneWaits, Least, Finds, Changed}
 use Rattle.frontier.proofs.Tournaments.{winner_second, others_right, written_right, winner_within, winner_same, root_beats, held_by_leaf}
 
 -- Whether a link waits, by its leaf.
 
-pub waits_own : (f : Tournament) (n : ℕ) → waits f n ≡ true → (0 < n) × (held f (1023 + n) ≡ n)
+pub waits_own : (f : Frontier) (n : ℕ) → waits f n ≡ true → (0 < n) × (held f (1023 + n) ≡ n)
 unfolding waits
 waits_own f n h = let p = and_parts _ _ h in (ltb-true 0 n p.0, eqb-true _ n p.1)
 
-pub own_waits : (f : Tournament) (n : ℕ) → 0 < n → held f (1023 + n) ≡ n → waits f n ≡ true
+pub own_waits : (f : Frontier) (n : ℕ) → 0 < n → held f (1023 + n) ≡ n → waits f n ≡ true
 unfolding waits
 own_waits f n low e = and_from _ _ (lt-ltb 0 n low) (eq-eqb _ n e)
 
-pub other_waits_not : (f : Tournament) (n : ℕ) → held f (1023 + n) ≢ n → waits f n ≡ false
+pub other_waits_not : (f : Frontier) (n : ℕ) → held f (1023 + n) ≢ n → waits f n ≡ false
 unfolding waits
 other_waits_not f n e = and_right _ _ (ne_eqb _ n e)
 
-pub zero_waits_not : (f : Tournament) → waits f 0 ≡ false
+pub zero_waits_not : (f : Frontier) → waits f 0 ≡ false
 unfolding waits
 zero_waits_not f = refl
 
-pub empty_waits_not : (f : Tournament) (n : ℕ) → held f (1023 + n) ≡ 0 → waits f n ≡ false
+pub empty_waits_not : (f : Frontier) (n : ℕ) → held f (1023 + n) ≡ 0 → waits f n ≡ false
 empty_waits_not f n e = ⊎_elim
     (λ (z : n ≡ 0). ap (λ x. waits f x) z ∙ zero_waits_not f)
     (λ (z : n ≡ 0 → ⊥). other_waits_not f n (λ h. z (omega arith)))
     (cases_eq n 0)
 
-pub same_waits : (f g : Tournament) (n : ℕ) → held g (1023 + n) ≡ held f (1023 + n) → waits g n ≡ waits f n
+pub same_waits : (f g : Frontier) (n : ℕ) → held g (1023 + n) ≡ held f (1023 + n) → waits g n ≡ waits f n
 unfolding waits
 same_waits f g n e = ap (λ x. ltb 0 n && eqb x n) e
 
@@ -42,7 +42,7 @@ past_end (x ∷ xs) zero h = absurd (omega arith)
 past_end (x ∷ xs) (suc k) h = past_end xs k (omega arith)
 
 -- Only links to 1024 wait.
-pub waits_high : (f : Tournament) (n : ℕ) → waits f n ≡ true → n ≤ 1024
+pub waits_high : (f : Frontier) (n : ℕ) → waits f n ≡ true → n ≤ 1024
 waits_high f n h =
     let own = waits_own f n h in
     ⊎_elim
@@ -52,7 +52,7 @@ waits_high f n h =
 
 -- The root.
 
-module _ (ls : List ℕ) (f : Tournament) (sound : Sound ls f) where
+module _ (ls : List ℕ) (f : Frontier) (sound : Sound ls f) where
   pub root_least : 0 < held f 1 → Least ls f (held f 1)
   root_least some =
       let leaf = held_by_leaf (label ls) (held f) sound.right sound.leaves 1 (omega arith) (omega arith) some in
@@ -98,9 +98,14 @@ module _ (ls : List ℕ) (f : Tournament) (sound : Sound ls f) where
   sound_while_out other n out same =
       sound_relabelled other (λ k w. same k (λ e. both_ways (waits f n) out (ap (λ x. waits f x) (sym e) ∙ w)))
 
+-- Where no least link is found, none waits.
+pub none_found : (ls : List ℕ) (f : Frontier) (r : Option LinkNumber) → is_some r ≡ false → Finds ls f (option_map (λ link. link.number) r) → NoneWaits f
+none_found ls f None empty found = found
+none_found ls f (Some link) empty found = absurd (both_ways true empty refl)
+
 -- A write.
 
-module _ (f g : Tournament) (p v : ℕ) (write : g.nodes ≡ set f.nodes p v) where
+module _ (f g : Frontier) (p v : ℕ) (write : g.nodes ≡ set f.nodes p v) where
   pub write_others : (k : ℕ) → k ≢ p → held g k ≡ held f k
   write_others k n = ap (λ xs. get_or xs k 0) write ∙ get_or-set_other f.nodes p k v 0 n
 
@@ -151,16 +156,16 @@ module _ (f g : Tournament) (p v : ℕ) (write : g.nodes ≡ set f.nodes p v) wh
 
 -- Which links wait after the leaf of one has changed.
 
-waits_elsewhere : (f g : Tournament) (n : ℕ) → ((m : ℕ) → 0 < m → m ≢ n → held g (1023 + m) ≡ held f (1023 + m)) → (m : ℕ) → m ≢ n → waits g m ≡ waits f m
+waits_elsewhere : (f g : Frontier) (n : ℕ) → ((m : ℕ) → 0 < m → m ≢ n → held g (1023 + m) ≡ held f (1023 + m)) → (m : ℕ) → m ≢ n → waits g m ≡ waits f m
 waits_elsewhere f g n same m d = ⊎_elim
     (λ (z : m ≡ 0). ap (λ x. waits g x) z ∙ zero_waits_not g ∙ sym (zero_waits_not f) ∙ ap (λ x. waits f x) (sym z))
     (λ (z : m ≡ 0 → ⊥). same_waits f g m (same m (omega arith) d))
     (cases_eq m 0)
 
-pub put_in : (f g : Tournament) (n : ℕ) → 0 < n → held g (1023 + n) ≡ n → ((m : ℕ) → 0 < m → m ≢ n → held g (1023 + m) ≡ held f (1023 + m)) → Changed f g n true
+pub put_in : (f g : Frontier) (n : ℕ) → 0 < n → held g (1023 + n) ≡ n → ((m : ℕ) → 0 < m → m ≢ n → held g (1023 + m) ≡ held f (1023 + m)) → Changed f g n true
 put_in f g n low here same = record { here = own_waits g n low here; others = waits_elsewhere f g n same }
 
-pub taken_out : (f g : Tournament) (n : ℕ) → held g (1023 + n) ≡ 0 → ((m : ℕ) → 0 < m → m ≢ n → held g (1023 + m) ≡ held f (1023 + m)) → Changed f g n false
+pub taken_out : (f g : Frontier) (n : ℕ) → held g (1023 + n) ≡ 0 → ((m : ℕ) → 0 < m → m ≢ n → held g (1023 + m) ≡ held f (1023 + m)) → Changed f g n false
 taken_out f g n here same = record { here = empty_waits_not g n here; others = waits_elsewhere f g n same }
 
 -- The frontier where every node holds 0.
@@ -170,7 +175,7 @@ zeros zero k = refl
 zeros (suc n) zero = refl
 zeros (suc n) (suc k) = zeros n k
 
-module _ (f : Tournament) (all : f.nodes ≡ replicate 2048 0) where
+module _ (f : Frontier) (all : f.nodes ≡ replicate 2048 0) where
   cleared : (k : ℕ) → held f k ≡ 0
   cleared k = ap (λ xs. get_or xs k 0) all ∙ zeros 2048 k
 

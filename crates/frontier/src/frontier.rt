@@ -1,14 +1,11 @@
-// The links that wait to be settled, the cheapest first, with the labels that order them.
-ghost use Rattle.std.specs.Prelude.{map};
-ghost use Rattle.frontier.specs.Tournament.{Sound};
+// The links that wait to be settled, as a tournament: leaf 1023 + n holds link n while it waits, else 0, and each inner
+// node k holds the cheaper of what its children 2k and 2k + 1 hold. The root, node 1, is a link with the least label. The
+// nodes stand in the struct, since there is no heap, and 0 is no link in them, as in the places of a book: two bytes each,
+// where an Option takes four.
+ghost use Rattle.std.specs.Prelude.{◌≡◌, length};
 
-use crate::labels::Labels;
-use crate::tournament::Tournament;
-use measure::Measure;
-
-#[derive(Drop)]
-pub struct Frontier<'a, M: Measure> {
-    pub(crate) labels: Labels<'a, M>,
-    pub(crate) nodes: Tournament,
-    ghost sound: { Sound (map M.Measure.rank labels.costs.now) nodes },
+#[derive(Clone, Copy)]
+pub struct Frontier {
+    pub(crate) nodes: [u16; 2048],
+    ghost long: { length nodes ≡ 2048 },
 }

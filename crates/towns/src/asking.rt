@@ -24,24 +24,6 @@ struct Asked<M: Shown + Drop> {
 }
 
 impl<M: Shown + Copy> Asked<M> {
-    // A town sealed under a measure, with its changes made.
-    fn new(heap: Global, town: Town, measure: M) -> Result<Asked<M>, AllocError>
-    where
-        M::Cost: Clone,
-    {
-        let mut map = seal(town.draft(), measure);
-        town.change(&mut map);
-        let book = vec![in heap; 0u16; 16_384]?;
-        let table = vec![in heap; measure.start(); 2_048]?;
-        Ok(Asked {
-            heap,
-            measure,
-            map,
-            book,
-            table,
-        })
-    }
-
     // The next route of the open question.
     fn next(&mut self) -> Result<(M::Cost, usize, usize), Refusal> {
         self.map
@@ -107,7 +89,7 @@ impl<M: Shown + Copy> Asked<M> {
     }
 }
 
-// Seals a town under a measure, and prints a line for each of its questions.
+// Seals a town under a measure, makes its changes, and prints a line for each of its questions.
 fn show_under<M: Shown + Copy>(
     rt: &HostRuntime,
     town: Town,
@@ -118,7 +100,16 @@ where
     M::Cost: Clone,
 {
     let name = town.name;
-    let mut asked = Asked::new(rt.alloc(), town, measure)?;
+    let heap = rt.alloc();
+    // Made here, since each function that hands on a map, of 44 KB, takes as much stack.
+    let mut asked = Asked {
+        heap,
+        measure,
+        map: seal(town.draft(), measure),
+        book: vec![in heap; 0u16; 16_384]?,
+        table: vec![in heap; measure.start(); 2_048]?,
+    };
+    town.change(&mut asked.map);
     for &(from, to) in town.questions {
         let costs = asked.answer(from, to, town.written)?;
         println!(rt; "{name}, {from} to {to}, {word}: {costs}")?;

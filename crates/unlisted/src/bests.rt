@@ -9,7 +9,7 @@ ghost use Rattle.routing.specs.Places.{Holds};
 ghost use Rattle.completion.specs.Onward.{too_dear};
 ghost use Rattle.unlisted.specs.Best.{price, Improves, Itself, Completion, Either};
 
-use completion::{Beginning, Search, complete, is_dear};
+use completion::{Departure, Search, complete, is_dear};
 use measure::Measure;
 use routing::{Found, Roads};
 
@@ -44,20 +44,20 @@ fn write_line(links: &[u16], line: &mut [u16])
 
 // The best route so far or the beginning itself, where that is a route and cheaper, unless it is taken.
 fn consider<M: Measure>(
-    beginning: &Beginning<'_, M>,
+    departure: &Departure<'_, M>,
     taken: bool,
     best: Option<Found<M::Cost>>,
     line: &mut [u16; 1024],
 ) -> Option<Found<M::Cost>>
-    requires { length beginning.now.links.now ≤ 1024 }
-    ensures { Improves M.Measure.rank (M.Measure.ranks beginning.now.measure.now) (lent beginning.now.trip.roads)
-        (Itself (lent beginning.now.trip.roads) beginning.now.trip.from beginning.now.trip.to beginning.now.links.now taken)
+    requires { length departure.now.beginning.links.now ≤ 1024 }
+    ensures { Improves M.Measure.rank (M.Measure.ranks departure.now.measure.now) (lent departure.now.trip.roads)
+        (Itself (lent departure.now.trip.roads) departure.now.trip.from departure.now.trip.to departure.now.beginning.links.now taken)
         best line.old result line.new }
 {
-    let trip = beginning.trip;
-    let links = beginning.links;
-    let cost = beginning.cost;
-    if taken || !ends_at(trip.roads, trip.to, links) || !is_better(beginning.measure, best, cost) {
+    let trip = departure.trip;
+    let links = departure.beginning.links;
+    let cost = departure.beginning.cost;
+    if taken || !ends_at(trip.roads, trip.to, links) || !is_better(departure.measure, best, cost) {
         return best;
     }
     write_line(links, line);
@@ -67,19 +67,19 @@ fn consider<M: Measure>(
 
 // The best of the best route so far, the beginning itself, unless it is taken, and the beginning with a completion.
 pub(crate) fn look_from<M: Measure>(
-    beginning: &Beginning<'_, M>,
+    departure: &Departure<'_, M>,
     taken: bool,
     best: Option<Found<M::Cost>>,
     search: &mut Search<'_, M>,
     line: &mut [u16; 1024],
 ) -> Option<Found<M::Cost>>
-    requires { length beginning.now.links.now ≤ 1024 }
-    ensures { Improves M.Measure.rank (M.Measure.ranks beginning.now.measure.now) (lent beginning.now.trip.roads)
-        (Either (Itself (lent beginning.now.trip.roads) beginning.now.trip.from beginning.now.trip.to beginning.now.links.now taken)
-        (Completion (lent beginning.now.trip.roads) beginning.now.trip.from beginning.now.trip.to beginning.now.links.now (marks beginning.now.forbidden.now)))
+    requires { length departure.now.beginning.links.now ≤ 1024 }
+    ensures { Improves M.Measure.rank (M.Measure.ranks departure.now.measure.now) (lent departure.now.trip.roads)
+        (Either (Itself (lent departure.now.trip.roads) departure.now.trip.from departure.now.trip.to departure.now.beginning.links.now taken)
+        (Completion (lent departure.now.trip.roads) departure.now.trip.from departure.now.trip.to departure.now.beginning.links.now (marks departure.now.beginning.forbidden.now)))
         best line.old result line.new }
 {
-    let best = consider(beginning, taken, best, line);
+    let best = consider(departure, taken, best, line);
     let bound = best.map(|found| found.cost);
-    complete(beginning, bound, search, line).or(best)
+    complete(departure, bound, search, line).or(best)
 }

@@ -6,7 +6,7 @@ ghost use Rattle.routing.specs.Book.{Unlisted, Finds, Cleared};
 
 use crate::legible::ListedRoutes;
 use crate::search::look_along_all;
-use completion::{Beginning, Search, complete};
+use completion::{Beginning, Departure, Search, complete};
 use measure::Measure;
 use network::LinkSet;
 use routing::{Found, Trip};
@@ -22,14 +22,17 @@ fn cheapest_route<M: Measure>(
 {
     let none = LinkSet::new();
     let beginning = Beginning {
-        measure,
-        trip,
         links: &[],
         cost: measure.start(),
         banned: trip.roads.closed,
         forbidden: &none,
     };
-    complete(&beginning, None, search, line)
+    let departure = Departure {
+        measure,
+        trip,
+        beginning,
+    };
+    complete(&departure, None, search, line)
 }
 
 // A cheapest simple route that is not listed, written to the line with zeros after it. The table is the front of one that may

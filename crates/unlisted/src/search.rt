@@ -15,7 +15,7 @@ use crate::costs::{banned_along, price_along, price_of};
 use crate::forks::{fork, new_from};
 use crate::legible::ListedRoutes;
 use crate::reading::fronts;
-use completion::{Beginning, Search};
+use completion::{Beginning, Departure, Search};
 use measure::Measure;
 use network::LinkSet;
 use routing::Found;
@@ -40,14 +40,17 @@ fn look_after<'a, M: Measure>(
 {
     let fork = fork(routes, along, count);
     let beginning = Beginning {
-        measure,
-        trip: routes.listing.trip,
         links: &along.links[..count],
         cost: price_of(measure, along.costs, count),
         banned,
         forbidden: &fork.links,
     };
-    look_from(&beginning, fork.ends, best, search, line)
+    let departure = Departure {
+        measure,
+        trip: routes.listing.trip,
+        beginning,
+    };
+    look_from(&departure, fork.ends, best, search, line)
 }
 
 // The best of the best route so far and those that leave the listed routes along one of them.

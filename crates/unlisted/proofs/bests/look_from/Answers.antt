@@ -8,11 +8,11 @@ use Rattle.unlisted.proofs.bests.look_from.Goals as goal
 pub returns : goal.returns
 returns g c =
     let rank = g.M.Measure.rank in
-    let m = g.M.Measure.ranks c.args.beginning.now.measure.now in
-    let trip = c.args.beginning.now.trip in
+    let m = g.M.Measure.ranks c.args.departure.now.measure.now in
+    let trip = c.args.departure.now.trip in
     let roads = lent trip.roads in
-    let p = c.args.beginning.now.links.now in
-    let forbidden = marks c.args.beginning.now.forbidden.now in
+    let p = c.args.departure.now.beginning.links.now in
+    let forbidden = marks c.args.departure.now.beginning.forbidden.now in
     let best = c.consider-best.result in
     let line = c.consider-best.new.line in
     let limit : c.map-bound.result ≡ bound best = search rules in

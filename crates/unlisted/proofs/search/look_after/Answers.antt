@@ -11,8 +11,8 @@ use Rattle.unlisted.proofs.Candidates.{candidate_left, left_candidate}
 use Rattle.unlisted.proofs.Improving.{improves_as}
 use Rattle.unlisted.proofs.search.look_after.Goals as goal
 
-pub invariant_of-beginning : goal.invariant_of-beginning
-invariant_of-beginning g c =
+pub invariant_of-departure : goal.invariant_of-departure
+invariant_of-departure g c =
     let listing = c.args.routes.listing in
     let r = c.args.along.links.now in
     let k = c.args.count in

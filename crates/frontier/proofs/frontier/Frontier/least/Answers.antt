@@ -1,5 +1,5 @@
-use Rattle.std.proofs.Common.{map}
+use Rattle.frontier.proofs.Frontiers.{root_found}
 use Rattle.frontier.proofs.frontier.Frontier.least.Goals as goal
 
 pub returns : goal.returns
-returns g c = c.least.ensures (map g.M.Measure.rank c.args.self.now.labels.costs.now) c.args.self.now.sound
+returns c ls sound = root_found ls c.args.self.now sound c.of.result c.of.ensures

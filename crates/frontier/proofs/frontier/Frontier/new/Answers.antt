@@ -1,4 +1,6 @@
+use Rattle.std.proofs.Common.{refl}
+use Rattle.frontier.proofs.Frontiers.{cleared_none, cleared_sound}
 use Rattle.frontier.proofs.frontier.Frontier.new.Goals as goal
 
-pub invariant_of-result : goal.invariant_of-result
-invariant_of-result g c = record { sound = c.new.ensures.sound _ }
+pub returns : goal.returns
+returns c = record { sound = λ ls. cleared_sound _ refl ls; none = cleared_none _ refl }

@@ -6,14 +6,10 @@ use Rattle.frontier.proofs.frontier.Frontier.take_least.Goals as goal
 
 pub returns-in_err-least : goal.returns-in_err-least
 returns-in_err-least g c =
-    let ls = map g.M.Measure.rank c.args.self.now.labels.costs.now in
-    let f = c.args.self.now.nodes in
+    let ls = map g.M.Measure.rank c.args.labels.now in
+    let f = c.args.self.now in
     let P : Option LinkNumber → Type 0 = λ r. Takes ls f f (option_map (λ link. link.number) r) in
     record {
-      labels = refl;
-      takes = subst P (sym c.from_residual.ensures) (c.in_err-least.ensures ls c.args.self.now.sound, refl);
+      sound = c.requires.sound;
+      takes = subst P (sym c.from_residual.ensures) (c.in_err-least.ensures ls c.requires.sound, refl);
     }
-
-pub remove-requires : goal.remove-requires
-remove-requires g c =
-    record { sound = c.args.self.now.sound }

@@ -1,5 +1,5 @@
 use Rattle.frontier.proofs.Frontiers.{put_in}
-use Rattle.frontier.proofs.tournament.Tournament.insert.Goals as goal
+use Rattle.frontier.proofs.frontier.Frontier.insert.Goals as goal
 
 pub returns : goal.returns
 returns g c = record {

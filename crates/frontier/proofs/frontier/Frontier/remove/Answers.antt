@@ -1,5 +1,5 @@
 use Rattle.frontier.proofs.Frontiers.{taken_out}
-use Rattle.frontier.proofs.tournament.Tournament.remove.Goals as goal
+use Rattle.frontier.proofs.frontier.Frontier.remove.Goals as goal
 
 pub returns : goal.returns
 returns g c = record {

@@ -1,5 +1,0 @@
-use Rattle.frontier.proofs.Frontiers.{root_found}
-use Rattle.frontier.proofs.tournament.Tournament.least.Goals as goal
-
-pub returns : goal.returns
-returns c ls sound = root_found ls c.args.self.now sound c.of.result c.of.ensures
