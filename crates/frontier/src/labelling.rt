@@ -1,4 +1,5 @@
-// What is read of labels, and what becomes of a frontier that goes by them. A frontier and its labels are lent to one call each.
+// What is read of labels, and what becomes of a frontier that goes by them. The calls into a frontier only hand on: both parts of a
+// labelled frontier can be lent to one call, but what one part holds cannot be lent beside the other part.
 ghost use Rattle.std.specs.Prelude.{◌≡◌, ◌-◌, ◌≤◌, true, false, length, map, nat_lt, slice_index_or, slice_set};
 ghost use Rattle.std.specs.Option.{option_map};
 ghost use Rattle.frontier.specs.Tournament.{label, Sound, Changed, Takes};
